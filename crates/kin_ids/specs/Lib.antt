@@ -1,0 +1,11 @@
+pub mod Types
+pub mod TagBytes
+pub mod Texts
+pub mod Parting
+pub mod Users
+pub mod Lines
+pub mod Fair
+pub mod Graph
+pub mod Order
+pub mod Operations
+pub mod Parts

@@ -1,0 +1,30 @@
+-- Users and tags as texts.
+use Rattle.std.specs.Prelude.{ℕ, ◌==◌, ◌&&◌, ◌||◌, ◌^◌, nat_le, nat_lt, Bool, List, length, Option, Some, None, if◌then◌else◌}
+use Rattle.std.specs.List.{list_all}
+use Rattle.std.specs.Str.{bytes_eq}
+use Rattle.std.specs.Str.Parse.{digits_value}
+use Rattle.std.specs.Fmt.{decimal}
+use Rattle.kin_ids.specs.Types.{User}
+
+-- the number below a bound whose decimal text this is: no sign, no leading zero
+abbrev pub number_of : ℕ → List ℕ → Option ℕ
+number_of bound text = if bytes_eq (decimal (digits_value 10 text)) text && nat_lt (digits_value 10 text) bound then Some (digits_value 10 text) else None
+
+abbrev pub as_user : Option ℕ → Option User
+as_user None = None
+as_user (Some n) = Some (record { 0 = n })
+
+-- the user whose decimal text this is, 0 to 4294967295
+abbrev pub user_of : List ℕ → Option User
+user_of text = as_user (number_of (2 ^ 32) text)
+
+-- a letter from a to z, a digit, or the low line
+abbrev pub is_tag_byte : ℕ → Bool
+is_tag_byte b = (nat_le 97 b && nat_le b 122) || ((nat_le 48 b && nat_le b 57) || b == 95)
+
+-- a tag is a text of 1 to 24 such characters
+abbrev pub is_tag : List ℕ → Bool
+is_tag text = (nat_le 1 (length text) && nat_le (length text) 24) && list_all is_tag_byte text
+
+abbrev pub tag_of : List ℕ → Option (List ℕ)
+tag_of text = if is_tag text then Some text else None

@@ -1,0 +1,8 @@
+//! Laws of the definitions, each the contract of a function that does nothing.
+
+ghost use Rattle.kin_ids.specs.Fair.{ShortestLaw, InTurnLaw};
+ghost use Rattle.kin_ids.specs.Graph as graph;
+ghost use Rattle.kin_ids.specs.Order as order;
+ghost use Rattle.kin_ids.specs.Parts as parts;
+ghost use Rattle.kin_ids.specs.Operations as operations;
+ghost use Rattle.kin_ids.specs.Texts as texts;

@@ -1,0 +1,19 @@
+//! Ids, stamps, records and operations, with what they mean for one graph.
+#![tactic(auto)]
+
+pub mod faults;
+pub mod ids;
+pub mod laws;
+pub mod lists;
+pub mod ops;
+pub mod parting;
+pub mod stamps;
+pub mod tags;
+
+pub use faults::{Failed, Memory};
+pub use ids::{Epoch, Inc, IngestId, PartId, User};
+pub use lists::{Ends, Items, Landmarks, ListOf, Names, Ops, PieceList, StampList};
+pub use ops::{Half, Item, Name, Numbered, Op, Piece, Record, Use};
+pub use parting::{part_of_tag, part_of_user};
+pub use stamps::{End, Place, Stamp};
+pub use tags::Tag;
