@@ -7,7 +7,8 @@ ghost use Rattle.std.specs.Cmp.Lexicographic.{pointwise, slice_cmp, nat_list_eq_
 ghost use Rattle.std.specs.Cmp.Rules.{hashing};
 ghost use Rattle.std.specs.Hash as fed;
 ghost use Rattle.std.proofs.Common.{rules};
-ghost use Rattle.kin_ids.specs.Texts.{tag_of};
+ghost use Rattle.std.specs.List.{list_all};
+ghost use Rattle.kin_ids.specs.Texts as texts;
 
 use std::cmp::Ordering;
 use std::hash::{Hash, Hasher};
@@ -36,17 +37,30 @@ impl Model for Tag {
     ghost inverse_ok = { λ a h. padded_back a h };
 }
 
+fn is_tag_byte(byte: u8) -> bool
+    ensures { result ≡ texts.is_tag_byte byte }
+{
+    byte.is_ascii_lowercase() || byte.is_ascii_digit() || byte == b'_'
+}
+
+fn all_tag_bytes(text: &[u8]) -> bool
+    ensures { result ≡ list_all texts.is_tag_byte text.now }
+{
+    text.iter().all(|b| is_tag_byte(*b))
+}
+
+fn has_tag_form(text: &[u8]) -> bool
+    ensures { result ≡ texts.is_tag text.now }
+{
+    1 <= text.len() && text.len() <= 24 && all_tag_bytes(text)
+}
+
 impl Tag {
     /// The tag of this text: 1 to 24 characters of `a` to `z`, `0` to `9` and `_`. None for every other text.
     pub fn read(bytes: &[u8]) -> Option<Tag>
-        ensures { result ≡ tag_of bytes.now }
+        ensures { result ≡ texts.tag_of bytes.now }
     {
-        let is_short = 1 <= bytes.len() && bytes.len() <= 24;
-        if is_short
-            && bytes
-                .iter()
-                .all(|b| matches!(b, b'a'..=b'z' | b'0'..=b'9' | b'_'))
-        {
+        if has_tag_form(bytes) {
             Some(Tag::of(bytes))
         } else {
             None
