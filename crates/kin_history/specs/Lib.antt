@@ -1,0 +1,6 @@
+pub mod Setting
+pub mod Lines
+pub mod Vectors
+pub mod Mining
+pub mod Outcomes
+pub mod Rows
