@@ -1,0 +1,48 @@
+-- The least cost of a walk, as a function.
+use Rattle.std.specs.Prelude.{◌≡◌, ◌≤◌, ◌<◌, ◌+◌, ◌*◌, ◌==◌, ◌&&◌, ◌||◌, ℕ, zero, suc, Bool, true, false, List, [], ◌∷◌, Option, Some, None, length, if◌then◌else◌}
+use Rattle.std.specs.List.{list_any}
+use Rattle.kin_ids.specs.declared.ids.User.{User}
+use Rattle.kin_ids.specs.Users.{same_user, has_user}
+use Rattle.kin_rules.specs.declared.kinds.EdgeKind.{EdgeKind}
+use Rattle.kin_rules.specs.declared.kinds.EdgeKind.TheVariants as kind
+use Rattle.kin_rules.specs.Walks.{Net, Step, AtMost, Under, IsWalk, IsWhole, IsRule, AreKept, IsAtRest, HasStart, cost}
+
+abbrev pub gives : Option ℕ → ℕ → Bool
+gives None c = false
+gives (Some n) c = n == c
+
+abbrev pub any_below : (ℕ → Bool) → ℕ → Bool
+any_below test zero = false
+any_below test (suc n) = test n || any_below test n
+
+-- the least number below n that passes
+abbrev pub least_below : (ℕ → Bool) → ℕ → Option ℕ
+least_below test zero = None
+least_below test (suc n) = if any_below test n then least_below test n else (if test n then Some n else None)
+
+abbrev pub by_edge : Net → (User → ℕ → Bool) → User → ℕ → EdgeKind → User → Bool
+by_edge net before u c k w = has_user (net.ends k w) u && any_below (λ d. gives (net.along k d) c && before w d) c
+
+-- whether a walk of at most so many edges leads from the landmark to u at the cost c
+abbrev pub is_walked : Net → ℕ → User → ℕ → Bool
+is_walked net zero u c = same_user u net.mark && c == 0
+is_walked net (suc n) u c = (same_user u net.mark && c == 0)
+    || list_any (λ w. by_edge net (is_walked net n) u c kind.Follow w || by_edge net (is_walked net n) u c kind.Mention w) net.users
+
+abbrev pub bound : Net → ℕ
+bound net = net.most * length net.users
+
+-- the least cost of a walk from the landmark to u
+unfoldable pub least_cost : Net → User → Option ℕ
+least_cost net u = if has_user net.users net.mark then least_below (λ c. is_walked net c u c) (bound net) else None
+
+-- it is the cost of a walk, and no walk costs less
+abbrev pub CostIsLeast : Type 0
+CostIsLeast = (net : Net) → IsRule net.along net.most → IsWhole net → has_user net.users net.mark ≡ true → (u : User) →
+    ((c : ℕ) → least_cost net u ≡ Some c → (ws : List Step) × IsWalk net u ws × (cost net ws ≡ Some c))
+    × ((ws : List Step) → IsWalk net u ws → Under (least_cost net u) (cost net ws))
+
+-- values at rest are the least costs
+abbrev pub RestIsLeast : Type 0
+RestIsLeast = (net : Net) (f : User → Option ℕ) → IsRule net.along net.most → IsWhole net → AreKept net f → HasStart net f → ((w : User) → IsAtRest net f w) →
+    (u : User) → f u ≡ least_cost net u

@@ -1,0 +1,22 @@
+-- Hops and closeness.
+use Rattle.std.specs.Prelude.{ℕ, ◌+◌, Option, Some, None}
+use Rattle.kin_ids.specs.declared.ids.User.{User}
+use Rattle.kin_rules.specs.declared.kinds.EdgeKind.{EdgeKind}
+use Rattle.kin_rules.specs.declared.kinds.EdgeKind.TheVariants as kind
+use Rattle.kin_rules.specs.Walks.{Rule}
+
+-- a follow edge counts one, and mention edges aren't used
+abbrev pub hops : EdgeKind → ℕ → Option ℕ
+hops kind.Follow v = Some (v + 1)
+hops kind.Mention v = None
+
+-- a follow edge costs 3, and a mention edge 1
+abbrev pub close : EdgeKind → ℕ → Option ℕ
+close kind.Follow v = Some (v + 3)
+close kind.Mention v = Some (v + 1)
+
+abbrev pub hops_rule : User → Rule
+hops_rule landmark = record { along = hops; mark = landmark; most = 1 }
+
+abbrev pub close_rule : User → Rule
+close_rule landmark = record { along = close; mark = landmark; most = 3 }

@@ -1,0 +1,23 @@
+-- Rank: each user passes half of its rank on, in equal shares, with a million of its own.
+use Rattle.std.specs.Prelude.{ℕ, zero, suc, ◌+◌, ◌/◌, ◌^◌, min, List}
+use Rattle.std.specs.List.{sum_by}
+use Rattle.kin_ids.specs.declared.ids.User.{User}
+use Rattle.kin_ids.specs.Graph.{Graph}
+use Rattle.kin_rules.specs.Counts.{out_count, followers}
+
+-- what y, at a rank, gives each user whom it follows
+abbrev pub share : Graph → User → ℕ → ℕ
+share g y rank = (1000000 + rank / 2) / out_count g y
+
+-- the rank of x in a layer: the shares of its followers one layer lower, at most 10^15
+abbrev pub rank_at : Graph → ℕ → User → ℕ
+rank_at g zero x = 0
+rank_at g (suc r) x = min (10 ^ 15) (sum_by (λ y. share g y (rank_at g r y)) (followers g x))
+
+-- the share of y in a layer
+abbrev pub share_at : Graph → ℕ → User → ℕ
+share_at g r y = share g y (rank_at g r y)
+
+-- the rank of x: that of layer 8
+abbrev pub rank : Graph → User → ℕ
+rank g x = rank_at g 8 x

@@ -1,0 +1,8 @@
+//! What the rules of mining mean on a graph: counts, least walks, rank, exposure and lists cut to their greatest entries.
+#![tactic(auto)]
+
+pub mod kinds;
+pub mod numbers;
+
+pub use kinds::EdgeKind;
+pub use numbers::{KCount, TagNumber, UserNumber};
