@@ -3,4 +3,4 @@ pub mod Lines
 pub mod Vectors
 pub mod Mining
 pub mod Outcomes
-pub mod Rows
+pub mod Drain

@@ -1,0 +1,4 @@
+//! What is printed: blocks of epochs, trace lines and whole reports.
+#![tactic(auto)]
+
+pub mod rows;
