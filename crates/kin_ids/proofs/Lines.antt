@@ -1,9 +1,7 @@
 -- Lines of stamps, their ends, and their longest fronts that arrived.
-use Rattle.std.proofs.Common.{◌≡◌, ◌≢◌, ℕ, zero, suc, ◌+◌, ◌<◌, ◌≤◌, Bool, true, false, cond, eqb, leb, max, ◌&&◌, ◌||◌, ◌⊎◌, inl, inr, ⊎_elim, List, [], ◌∷◌, ◌++◌, refl, sym, ◌∙◌, ap, subst, arith, min}
-use Rattle.std.specs.List.{list_any}
-use Rattle.std.proofs.lemmas.Bool.{cond_both, cond-true, cond-false, true≢false, false≢true, and_parts, or_cases, or_left, or_right, eqb-true, eq-eqb, cases_Bool, both_ways, cases_lt, cases_eq, leb-true, leb-false, le-leb, lt-leb, ne_eqb, and_from, or_from, false_from_ne_true}
+use Rattle.std.proofs.Common.{◌≡◌, ◌≢◌, ℕ, zero, suc, ◌<◌, ◌≤◌, Bool, true, false, cond, eqb, leb, max, ◌&&◌, ◌||◌, inl, inr, ⊎_elim, List, [], ◌∷◌, ◌++◌, refl, sym, ◌∙◌, ap, subst, arith, min}
+use Rattle.std.proofs.lemmas.Bool.{cond_both, cond-true, cond-false, false≢true, and_parts, or_cases, or_left, or_right, eqb-true, eq-eqb, both_ways, cases_lt, cases_eq, leb-true, leb-false, le-leb, lt-leb}
 use Rattle.std.proofs.lemmas.Bool.Decides.{nat_tests}
-use Rattle.std.proofs.lemmas.List.Folds.{list_any-append}
 use Rattle.kin_ids.specs.Types.{Stamp}
 use Rattle.kin_ids.specs.Lines.{end_of, same_stamp, has, front_in, IsLine, IsEnd, least_from, upto, past, made_by, is_of, seen_in}
 

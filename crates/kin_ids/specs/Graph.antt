@@ -1,5 +1,5 @@
 -- One whole graph, and what a record does to it.
-use Rattle.std.specs.Prelude.{ℕ, ◌&&◌, ◌||◌, Bool, true, false, List, [], ◌∷◌, ◌++◌, if◌then◌else◌, filter, map, count_by}
+use Rattle.std.specs.Prelude.{ℕ, ◌&&◌, Bool, true, false, List, [], ◌∷◌, ◌++◌, if◌then◌else◌, filter, map, count_by}
 use Rattle.std.specs.List.{list_any}
 use Rattle.kin_ids.specs.Types.{User, Place, Item, Record, Half, Use}
 use Rattle.kin_ids.specs.declared.ops.Item.TheVariants as item

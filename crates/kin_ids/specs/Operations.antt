@@ -1,5 +1,5 @@
 -- The operations of records, each with the partition to which it belongs.
-use Rattle.std.specs.Prelude.{ℕ, ◌+◌, ◌≡◌, ◌<◌, ◌≤◌, ◌==◌, List, [], ◌∷◌, ◌++◌, filter, length, map}
+use Rattle.std.specs.Prelude.{ℕ, ◌+◌, ◌≡◌, ◌<◌, ◌≤◌, ◌==◌, List, [], ◌∷◌, ◌++◌, filter, length}
 use Rattle.kin_ids.specs.Types.{User, Item, Record, Op, Numbered, Piece, Stamp}
 use Rattle.kin_ids.specs.declared.ops.Item.TheVariants as item
 use Rattle.kin_ids.specs.declared.ops.Record.TheVariants as record_kind

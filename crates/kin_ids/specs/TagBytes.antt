@@ -1,6 +1,6 @@
 -- A text in place: its bytes, and then zeros.
 use Rattle.std.specs.Prelude.{◌≡◌, ◌≤◌, ◌-◌, ◌++◌, ℕ, List, length, take, drop, replicate}
-use Rattle.std.proofs.Common.{ap, ap₂, sym, ◌∙◌, refl, arith}
+use Rattle.std.proofs.Common.{ap, ap₂, sym, ◌∙◌, arith}
 use Rattle.std.proofs.lemmas.List.{take-append-drop, length-take}
 use Rattle.kin_ids.specs.declared.tags.Tag.TheInside.{Inside}
 

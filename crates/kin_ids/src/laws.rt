@@ -6,3 +6,9 @@ ghost use Rattle.kin_ids.specs.Order as order;
 ghost use Rattle.kin_ids.specs.Parts as parts;
 ghost use Rattle.kin_ids.specs.Operations as operations;
 ghost use Rattle.kin_ids.specs.Texts as texts;
+
+/// Reading undoes writing.
+pub fn text_laws()
+    ensures numbers { texts.NumberLaw }
+    ensures users { texts.UserLaw }
+{}

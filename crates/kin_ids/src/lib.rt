@@ -1,6 +1,7 @@
 //! Ids, stamps, records and operations, with what they mean for one graph.
 #![tactic(auto)]
 
+pub mod decimals;
 pub mod faults;
 pub mod ids;
 pub mod laws;
@@ -11,6 +12,7 @@ pub mod parting;
 pub mod stamps;
 pub mod tags;
 
+pub use decimals::read_decimal;
 pub use faults::{Failed, Memory};
 pub use ids::{Epoch, Inc, IngestId, PartId, User};
 pub use lists::{Ends, Items, Landmarks, ListOf, Names, Ops, PieceList, StampList};
