@@ -1,2 +1,4 @@
 pub mod Lines
 pub mod Numerals
+pub mod Turns
+pub mod Rounds

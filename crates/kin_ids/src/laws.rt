@@ -12,3 +12,10 @@ pub fn text_laws()
     ensures numbers { texts.NumberLaw }
     ensures users { texts.UserLaw }
 {}
+
+/// A cut with a number takes the shortest front of the transactions in turn that has enough records, and these are
+/// each node's pending ones, each once and in order.
+pub fn fair_laws()
+    ensures shortest { ShortestLaw }
+    ensures in_turn { InTurnLaw }
+{}
