@@ -7,5 +7,6 @@ pub mod Lines
 pub mod Fair
 pub mod Graph
 pub mod Order
+pub mod Follows
 pub mod Operations
 pub mod Parts

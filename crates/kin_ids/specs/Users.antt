@@ -1,10 +1,10 @@
 -- Users, tags and places, compared.
-use Rattle.std.specs.Prelude.{ℕ, ◌==◌, ◌&&◌, ◌||◌, nat_lt, Bool, List}
+use Rattle.std.specs.Prelude.{ℕ, ◌≡◌, ◌==◌, ◌&&◌, ◌||◌, nat_lt, Bool, true, List, [], ◌∷◌}
 use Rattle.std.specs.Ordering.{nat_cmp}
 use Rattle.std.specs.declared.cmp.Ordering.{Ordering}
 use Rattle.std.specs.Cmp.Lexicographic.{slice_cmp}
 use Rattle.std.specs.BTreeMap.{is_at}
-use Rattle.std.specs.List.{list_any}
+use Rattle.std.specs.List.{list_any, list_all}
 use Rattle.kin_ids.specs.Types.{User, Place}
 
 -- users in the order of their numbers
@@ -29,3 +29,8 @@ has_user us u = list_any (same_user u) us
 abbrev pub is_before : Place → Place → Bool
 is_before a b = nat_lt a.epoch.0 b.epoch.0
     || (a.epoch.0 == b.epoch.0 && (nat_lt a.ingest.0 b.ingest.0 || (a.ingest.0 == b.ingest.0 && nat_lt a.number b.number)))
+
+-- each place is before all later ones
+abbrev pub IsAscending : List Place → Type 0
+IsAscending [] = Unit {0}
+IsAscending (a ∷ later) = (list_all (is_before a) later ≡ true) × IsAscending later

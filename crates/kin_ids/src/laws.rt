@@ -1,7 +1,7 @@
 //! Laws of the definitions, each the contract of a function that does nothing.
 
 ghost use Rattle.kin_ids.specs.Fair.{ShortestLaw, InTurnLaw};
-ghost use Rattle.kin_ids.specs.Graph as graph;
+ghost use Rattle.kin_ids.specs.Follows as follows;
 ghost use Rattle.kin_ids.specs.Order as order;
 ghost use Rattle.kin_ids.specs.Parts as parts;
 ghost use Rattle.kin_ids.specs.Operations as operations;
@@ -18,4 +18,13 @@ pub fn text_laws()
 pub fn fair_laws()
     ensures shortest { ShortestLaw }
     ensures in_turn { InTurnLaw }
+{}
+
+/// The last follow or unfollow of an edge decides whether it is present, and the first follow where it was added.
+/// Each edge, mention and first use stands once in a graph, and edges by ascending place.
+pub fn graph_laws()
+    ensures edges { follows.EdgeLaw }
+    ensures later { follows.LaterLaw }
+    ensures sound { follows.SoundLaw }
+    ensures ascend { follows.AscendLaw }
 {}
