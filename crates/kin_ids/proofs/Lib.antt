@@ -6,3 +6,5 @@ pub mod Same
 pub mod Edges
 pub mod Once
 pub mod Told
+pub mod Joins
+pub mod Orders

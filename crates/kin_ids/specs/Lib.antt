@@ -8,5 +8,6 @@ pub mod Fair
 pub mod Graph
 pub mod Order
 pub mod Follows
+pub mod Records
 pub mod Operations
 pub mod Parts

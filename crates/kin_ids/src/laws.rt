@@ -2,7 +2,7 @@
 
 ghost use Rattle.kin_ids.specs.Fair.{ShortestLaw, InTurnLaw};
 ghost use Rattle.kin_ids.specs.Follows as follows;
-ghost use Rattle.kin_ids.specs.Order as order;
+ghost use Rattle.kin_ids.specs.Records as records;
 ghost use Rattle.kin_ids.specs.Parts as parts;
 ghost use Rattle.kin_ids.specs.Operations as operations;
 ghost use Rattle.kin_ids.specs.Texts as texts;
@@ -27,4 +27,11 @@ pub fn graph_laws()
     ensures later { follows.LaterLaw }
     ensures sound { follows.SoundLaw }
     ensures ascend { follows.AscendLaw }
+{}
+
+/// The agreed order has each record once, by ascending place. The transactions of a line have the records between its
+/// ends.
+pub fn order_laws()
+    ensures order { records.OrderLaw }
+    ensures line { records.LineLaw }
 {}

@@ -1,0 +1,6 @@
+use Rattle.kin_ids.proofs.Joins.{line-law}
+use Rattle.kin_ids.proofs.Orders.{order-law}
+use Rattle.kin_ids.proofs.laws.order_laws.Goals as goal
+
+pub returns : goal.returns
+returns c = record { order = order-law; line = line-law }
