@@ -1,0 +1,3 @@
+mod Keyed
+pub mod Pieces
+pub mod Cuts

@@ -1,0 +1,3 @@
+pub mod Early
+pub mod Chains
+pub mod Takes

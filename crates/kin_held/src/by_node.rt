@@ -1,0 +1,99 @@
+//! One partition's chains, one for each node.
+
+ghost use Rattle.std.specs.Prelude.{◌≡◌, ◌<◌, IfOk, OnErr, length, slice_set, replicate};
+ghost use Rattle.kin_ids.specs.Operations.{IsWellFormed};
+
+use crate::answers::Taken;
+use crate::chains::Chain;
+use kin_ids::{Inc, IngestId, Memory, Piece};
+use std::alloc::Global;
+use std::marker::Model;
+
+/// The pieces that a partition holds, a chain for each node.
+#[derive(Drop)]
+pub struct Held {
+    chains: Vec<Chain>,
+}
+
+impl Model for Held {
+    ghost use Rattle.std.specs.Prelude.{List};
+    ghost use Rattle.kin_held.specs.Chains.{ChainView};
+
+    ghost Value = { List ChainView };
+
+    ghost view = { λ h. h.chains.items };
+}
+
+impl Held {
+    ghost use Rattle.kin_held.specs.Chains.{IsChain, chain_at, no_chain};
+    ghost use Rattle.kin_held.specs.Takes.{TakesAt, IsPlace, chain_past};
+
+    /// Empty chains of this many nodes.
+    pub fn new(alloc: Global, nodes: u16) -> Result<Held, Memory>
+        ensures { IfOk result (λ held. held ≡ replicate nodes no_chain) }
+    {
+        let mut chains = Vec::with_capacity(alloc, usize::from(nodes))?;
+        for _node in 0..nodes {
+            chains.push(Chain::new(alloc))?;
+        }
+        Ok(Held { chains })
+    }
+
+    /// Takes a piece into its node's chain. It costs O(log n) in the early pieces of that chain for itself and for each piece
+    /// that joins with it; a later incarnation costs what it drops besides.
+    pub fn take(&mut self, piece: Piece) -> Result<Taken, Memory>
+        requires formed { IsWellFormed piece }
+        requires node { piece.stamp.ingest.0 < length self.old }
+        ensures taken { IfOk result (λ taken. TakesAt self.old piece taken self.new) }
+        ensures err { OnErr result (self.new ≡ self.old) }
+        ensures chain { IsChain (chain_at self.new piece.stamp.ingest.0) }
+    {
+        let chain = &mut self.chains[usize::from(piece.stamp.ingest.0)];
+        chain.take(piece)
+    }
+
+    /// Up to where node `i` is held without a gap.
+    pub fn top(&self, i: IngestId) -> u64
+        requires { i.0 < length self.now }
+        ensures { result ≡ (chain_at self.now i.0).top }
+    {
+        self.chains[usize::from(i.0)].top()
+    }
+
+    /// The greatest incarnation of node `i` that a piece was taken of.
+    pub fn inc(&self, i: IngestId) -> Inc
+        requires { i.0 < length self.now }
+        ensures { result.0 ≡ (chain_at self.now i.0).inc }
+    {
+        self.chains[usize::from(i.0)].inc()
+    }
+
+    /// Up to where the pieces of node `i` were forgotten.
+    pub fn floor(&self, i: IngestId) -> u64
+        requires { i.0 < length self.now }
+        ensures { result ≡ (chain_at self.now i.0).floor }
+    {
+        self.chains[usize::from(i.0)].floor()
+    }
+
+    /// The pieces of node `i` that follow each other from its floor to its top.
+    pub fn chain(&self, i: IngestId) -> &[Piece]
+        requires { i.0 < length self.now }
+        ensures held { result.now ≡ (chain_at self.now i.0).held }
+        ensures chain { IsChain (chain_at self.now i.0) }
+    {
+        self.chains[usize::from(i.0)].held()
+    }
+
+    /// Lets go of the pieces of node `i` up to a place of its chain, which is its floor then. It costs a search by halves, and
+    /// a move of the pieces that stay.
+    pub fn forget(&mut self, i: IngestId, to: u64)
+        requires node { i.0 < length self.old }
+        requires place { IsPlace (chain_at self.old i.0) to }
+        ensures forgot { self.new ≡ slice_set self.old i.0 (chain_past (chain_at self.old i.0) to) }
+        ensures chain { IsChain (chain_at self.new i.0) }
+    {
+        let chain = &mut self.chains[usize::from(i.0)];
+        chain.forget(to);
+    }
+}
