@@ -1,0 +1,4 @@
+pub mod Made
+pub mod Sound
+pub mod Seen
+pub mod Cuts

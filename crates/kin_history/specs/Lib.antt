@@ -4,3 +4,5 @@ pub mod Vectors
 pub mod Mining
 pub mod Outcomes
 pub mod Drain
+pub mod Laws
+pub mod CutLaws

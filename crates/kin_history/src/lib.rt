@@ -1,4 +1,4 @@
-//! What a list of events means: the definitions over histories, with their laws and worked rows.
+//! What a list of events means: the definitions over histories, with their laws.
 #![tactic(auto)]
 
-pub mod rows;
+pub mod laws;

@@ -1,0 +1,143 @@
+-- Laws of vectors, by the events.
+use Rattle.std.proofs.Common.{◌≡◌, ◌≢◌, ℕ, ◌+◌, ◌<◌, ◌≤◌, Bool, true, false, eqb, leb, ◌&&◌, ◌⊎◌, inl, inr, ⊎_elim, List, [], ◌∷◌, Option, Some, None, refl, ◌∙◌, subst, arith, min}
+use Rattle.std.proofs.lemmas.Bool.{cond_both, cond-true, cond-false, and_from, and_left, and_right, eq-eqb, ne_eqb, cases_eq, lt-leb}
+use Rattle.kin_ids.specs.Lines.{IsEnd, end_of, upto, past}
+use Rattle.kin_ids.proofs.Lines.{IsEnd-append, upto-append, upto-upto, upto-ends, upto-line, upto-end, end_within, end_grows, upto-past, end-past, past-line}
+use Rattle.kin_ids.proofs.Turns.{fair-end}
+use Rattle.kin_script.specs.declared.events.Event.{Event}
+use Rattle.kin_script.specs.declared.events.Event.TheVariants as event
+use Rattle.kin_history.specs.Setting.{Setting, nodes, feed_len, IsHistory, after}
+use Rattle.kin_history.specs.Lines.{agreed, line, next, least_ack}
+use Rattle.kin_history.specs.Vectors.{is_none, cut_at, unreported_part, cuts, vector}
+use Rattle.kin_history.specs.CutLaws.{IsCutSound, KeepsCuts}
+use Rattle.kin_history.proofs.Made.{Quiet, Makes, new_stamp, stamps, Stays, Back, restarts}
+use Rattle.kin_history.proofs.Sound.{IsSound, sound}
+use Rattle.kin_history.proofs.Seen.{agreed-least}
+
+module _ (set : Setting) where
+  -- a cut that is refused, or one that is made
+  pub record CutStays (h : List Event) (n : Option ℕ) : Type 0 where
+    pub cuts_is : cuts set (event.Cut n ∷ h) ≡ cuts set h
+    pub vector_is : (k i : ℕ) → vector set (event.Cut n ∷ h) k i ≡ vector set h k i
+
+  abbrev pub new_vector : List Event → Option ℕ → ℕ → ℕ
+  new_vector h n i = cut_at (nodes set) (λ j. vector set h (cuts set h) j) (λ j. upto (agreed set h j) (line set h j)) (λ j. agreed set h j) n i
+
+  pub record CutMakes (h : List Event) (n : Option ℕ) : Type 0 where
+    pub cuts_is : cuts set (event.Cut n ∷ h) ≡ cuts set h + 1
+    pub old_is : (k i : ℕ) → k ≢ cuts set h + 1 → vector set (event.Cut n ∷ h) k i ≡ vector set h k i
+    pub new_is : (i : ℕ) → vector set (event.Cut n ∷ h) (cuts set h + 1) i ≡ new_vector h n i
+
+  pub cut_views : (h : List Event) (n : Option ℕ) → CutStays h n ⊎ CutMakes h n
+  cut_views h n = go (is_none (unreported_part set h)) refl
+    where
+      go : (b : Bool) → is_none (unreported_part set h) ≡ b → CutStays h n ⊎ CutMakes h n
+      go true e = inr (record {
+        cuts_is = cond-true (is_none (unreported_part set h)) _ _ e;
+        old_is = λ k i ne. cond-false (is_none (unreported_part set h) && eqb k (cuts set h + 1)) _ _ (and_right _ _ (ne_eqb _ _ ne));
+        new_is = λ i. cond-true (is_none (unreported_part set h) && eqb (cuts set h + 1) (cuts set h + 1)) _ _ (and_from _ _ e (eq-eqb _ _ refl));
+      })
+      go false e = inl (record {
+        cuts_is = cond-false (is_none (unreported_part set h)) _ _ e;
+        vector_is = λ k i. cond-false (is_none (unreported_part set h) && eqb k (cuts set h + 1)) _ _ (and_left _ _ e);
+      })
+
+  -- where a new vector stands
+  new-end : (h : List Event) (n : Option ℕ) (i : ℕ) → IsSound set h i → IsCutSound set h i → i < nodes set → IsEnd 0 (line set h i) (new_vector h n i) × (new_vector h n i ≤ agreed set h i) × (vector set h (cuts set h) i ≤ new_vector h n i)
+  new-end h None i g s lt = (g.ends, omega arith, s.within (cuts set h))
+  new-end h (Some n) i g s lt =
+      let v = vector set h (cuts set h) i in
+      let a = agreed set h i in
+      let L = upto a (line set h i) in
+      let run = upto-line 0 a (line set h i) g.run in
+      let v_end = upto-ends 0 a v (line set h i) g.run (s.ends (cuts set h)) (s.within (cuts set h)) in
+      let there = fair-end (λ j. vector set h (cuts set h) j) (λ j. past (vector set h (cuts set h) j) (upto (agreed set h j) (line set h j))) (nodes set) n i lt in
+      let e : IsEnd 0 L (new_vector h (Some n) i) = end-past 0 v (new_vector h (Some n) i) L run v_end there in
+      let most : new_vector h (Some n) i ≤ end_of 0 L = end_within 0 L (new_vector h (Some n) i) run e in
+      let top : end_of 0 L ≡ a = upto-end 0 a (line set h i) g.run g.ends in
+      (subst (λ xs. IsEnd 0 xs (new_vector h (Some n) i)) (upto-past a (line set h i)) (IsEnd-append 0 L (past a (line set h i)) (new_vector h (Some n) i) e), omega arith, end_grows v (past v L) (new_vector h (Some n) i) (past-line 0 v L run v_end) there)
+
+  pub sound-cuts : (h : List Event) (i : ℕ) → 0 < set.parts → IsHistory set h → i < nodes set → IsCutSound set h i
+  sound-cuts [] i some legal lt = record { first = refl; step = λ k l. absurd (omega arith); ends = λ k. refl; within = λ k. omega arith }
+  sound-cuts (event.Stamp j n ∷ h) i some legal lt = let s = sound-cuts h i some legal.1 lt in
+      record { first = s.first; step = s.step; ends = λ k. ⊎_elim (λ (q : Quiet set h j.0 n i). rw q.line_is (s.ends k)) (λ (m : Makes set h j.0 n i). rw m.line_is (IsEnd-append 0 (line set h i) (new_stamp set h i n ∷ []) _ (s.ends k))) (stamps set h j.0 n i); within = s.within }
+  sound-cuts (event.Raise j ∷ h) i some legal lt = let s = sound-cuts h i some legal.1 lt in
+      record {
+        first = s.first;
+        step = s.step;
+        ends = s.ends;
+        within = λ k. let w = s.within k in let grows = agreed-least set h i some (sound set h i some legal.1) in
+            cond_both (eqb j.0 i) (least_ack set h i) (agreed set h i) (λ (m : ℕ). vector set h k i ≤ m) (λ _. omega arith) (λ _. w);
+      }
+  sound-cuts (event.Restart j ∷ h) i some legal lt = let s = sound-cuts h i some legal.1 lt in let g = sound set h i some legal.1 in
+      record { first = s.first; step = s.step; ends = λ k. ⊎_elim (λ (q : Stays set h j.0 i). rw q.line_is (s.ends k)) (λ (b : Back set h j.0 i). rw b.line_is (upto-ends 0 (agreed set h i) (vector set h k i) (line set h i) g.run (s.ends k) (s.within k))) (restarts set h j.0 i); within = s.within }
+  sound-cuts (event.Cut n ∷ h) i some legal lt = let s = sound-cuts h i some legal.1 lt in let g = sound set h i some legal.1 in
+      ⊎_elim (λ (r : CutStays h n). record {
+        first = r.vector_is 0 i ∙ s.first;
+        step = λ k l. let a = r.vector_is k i in let b = r.vector_is (k + 1) i in let c = r.cuts_is in let d = s.step k (omega arith) in omega arith;
+        ends = λ k. rw (r.vector_is k i) (s.ends k);
+        within = λ k. rw (r.vector_is k i) (s.within k);
+      })
+      (λ (m : CutMakes h n).
+      let new = new-end h n i g s lt in
+      record {
+        first = m.old_is 0 i (λ (e : 0 ≡ cuts set h + 1). omega arith) ∙ s.first;
+        step = λ k l. let c = m.cuts_is in let a = m.old_is k i (λ (e : k ≡ cuts set h + 1). omega arith) in
+            ⊎_elim (λ (e : k ≡ cuts set h). let least = new.2 in rw (a, e, m.new_is i) least)
+            (λ (ne : k ≢ cuts set h). let d = s.step k (omega arith) in let b = m.old_is (k + 1) i (λ (e : k + 1 ≡ cuts set h + 1). omega arith) in omega arith)
+            (cases_eq k (cuts set h));
+        ends = λ k. ⊎_elim (λ (e : k ≡ cuts set h + 1). rw (e, m.new_is i) new.0) (λ (ne : k ≢ cuts set h + 1). rw (m.old_is k i ne) (s.ends k)) (cases_eq k (cuts set h + 1));
+        within = λ k. ⊎_elim (λ (e : k ≡ cuts set h + 1). rw (e, m.new_is i) new.1) (λ (ne : k ≢ cuts set h + 1). rw (m.old_is k i ne) (s.within k)) (cases_eq k (cuts set h + 1));
+      })
+      (cut_views h n)
+  sound-cuts (_ ∷ h) i some legal lt = let s = sound-cuts h i some legal.1 lt in record { first = s.first; step = s.step; ends = s.ends; within = s.within }
+
+  -- what an event leaves of vectors
+  pub keeps : (e : Event) (h : List Event) (i : ℕ) → 0 < set.parts → IsHistory set (e ∷ h) → i < nodes set → KeepsCuts set h (e ∷ h) i
+  keeps (event.Stamp j n) h i some legal lt = let s = sound-cuts h i some legal.1 lt in let g = sound set h i some legal.1 in
+      record {
+        raised = omega arith;
+        more = omega arith;
+        kept = λ k le. refl;
+        inside = λ k le. ⊎_elim (λ (q : Quiet set h j.0 n i). rw q.line_is refl)
+            (λ (m : Makes set h j.0 n i).
+            let w = end_within 0 (line set h i) (vector set h k i) g.run (s.ends k) in
+            let in_feed : next set h i ≤ feed_len set i = g.within in
+            let differ : next set h i ≢ feed_len set i = m.more in
+            let some_records : 0 < n = legal.0.1 in
+            let beyond : vector set h k i < min (next set h i + n) (feed_len set i) = omega arith in
+            rw m.line_is (upto-append (vector set h k i) (line set h i) (new_stamp set h i n ∷ []) (cond-false (leb (min (next set h i + n) (feed_len set i)) (vector set h k i)) _ _ (lt-leb _ _ beyond))))
+            (stamps set h j.0 n i);
+      }
+  keeps (event.Raise j) h i some legal lt = let grows = agreed-least set h i some (sound set h i some legal.1) in
+      record { raised = cond_both (eqb j.0 i) (least_ack set h i) (agreed set h i) (λ (m : ℕ). agreed set h i ≤ m) (λ _. grows) (λ _. omega arith); more = omega arith; kept = λ k le. refl; inside = λ k le. refl }
+  keeps (event.Restart j) h i some legal lt = let s = sound-cuts h i some legal.1 lt in
+      record { raised = omega arith; more = omega arith; kept = λ k le. refl; inside = λ k le. ⊎_elim (λ (q : Stays set h j.0 i). rw q.line_is refl) (λ (b : Back set h j.0 i). rw b.line_is (upto-upto (vector set h k i) (agreed set h i) (line set h i) (s.within k))) (restarts set h j.0 i) }
+  keeps (event.Cut n) h i some legal lt =
+      ⊎_elim (λ (r : CutStays h n). let c = r.cuts_is in record { raised = omega arith; more = omega arith; kept = λ k le. r.vector_is k i; inside = λ k le. refl })
+      (λ (m : CutMakes h n). let c = m.cuts_is in record { raised = omega arith; more = omega arith; kept = λ k le. m.old_is k i (λ (e : k ≡ cuts set h + 1). omega arith); inside = λ k le. refl })
+      (cut_views h n)
+  keeps _ h i some legal lt = record { raised = omega arith; more = omega arith; kept = λ k le. refl; inside = λ k le. refl }
+
+  -- a part of a legal history is legal
+  pub history-front : (h es : List Event) → IsHistory set (after h es) → IsHistory set h
+  history-front h [] legal = legal
+  history-front h (e ∷ es) legal = (history-front (e ∷ h) es legal).1
+
+  joined : (a b c : List Event) (i : ℕ) → KeepsCuts set a b i → KeepsCuts set b c i → KeepsCuts set a c i
+  joined a b c i f g =
+      let f_more = f.more in
+      let g_more = g.more in
+      let f_raised = f.raised in
+      let g_raised = g.raised in
+      record {
+        raised = omega arith;
+        more = omega arith;
+        kept = λ k le. g.kept k (omega arith) ∙ f.kept k le;
+        inside = λ k le. subst (λ (v : ℕ). upto v (line set c i) ≡ upto v (line set b i)) (f.kept k le) (g.inside k (omega arith)) ∙ f.inside k le;
+      }
+
+  -- what any later events leave of vectors
+  pub keeps-later : (h es : List Event) (i : ℕ) → 0 < set.parts → IsHistory set (after h es) → i < nodes set → KeepsCuts set h (after h es) i
+  keeps-later h [] i some legal lt = record { raised = omega arith; more = omega arith; kept = λ k le. refl; inside = λ k le. refl }
+  keeps-later h (e ∷ es) i some legal lt = joined h (e ∷ h) (after h (e ∷ es)) i (keeps e h i some (history-front (e ∷ h) es legal) lt) (keeps-later (e ∷ h) es i some legal lt)

@@ -1,0 +1,4 @@
+//! Laws of histories, each the contract of a function that does nothing.
+
+/// Laws of agreed positions.
+pub fn agreement_laws() {}
