@@ -1,18 +1,21 @@
 -- Laws of vectors, by the events.
-use Rattle.std.proofs.Common.{◌≡◌, ◌≢◌, ℕ, ◌+◌, ◌<◌, ◌≤◌, Bool, true, false, eqb, leb, ◌&&◌, ◌⊎◌, inl, inr, ⊎_elim, List, [], ◌∷◌, Option, Some, None, refl, ◌∙◌, subst, arith, min}
-use Rattle.std.proofs.lemmas.Bool.{cond_both, cond-true, cond-false, and_from, and_left, and_right, eq-eqb, ne_eqb, cases_eq, lt-leb}
-use Rattle.kin_ids.specs.Lines.{IsEnd, end_of, upto, past}
-use Rattle.kin_ids.proofs.Lines.{IsEnd-append, upto-append, upto-upto, upto-ends, upto-line, upto-end, end_within, end_grows, upto-past, end-past, past-line}
+use Rattle.std.proofs.Common.{◌≡◌, ◌≢◌, ℕ, ◌+◌, ◌<◌, ◌≤◌, Bool, true, false, eqb, ◌&&◌, ◌⊎◌, inl, inr, ⊎_elim, List, [], ◌∷◌, Option, Some, None, refl, ◌∙◌, subst, arith}
+use Rattle.std.proofs.lemmas.Bool.{cond_both, cond-true, cond-false, and_from, and_left, and_right, eq-eqb, ne_eqb, cases_eq}
+use Rattle.kin_ids.specs.declared.stamps.Stamp.{Stamp}
+use Rattle.kin_ids.specs.Order.{within}
+use Rattle.kin_ids.specs.Lines.{IsEnd, end_of, has, upto, past}
+use Rattle.kin_ids.proofs.Lines.{IsEnd-append, upto-ends, upto-line, upto-end, end_within, end_grows, upto-has, upto-past, end-past, past-line}
 use Rattle.kin_ids.proofs.Turns.{fair-end}
 use Rattle.kin_script.specs.declared.events.Event.{Event}
 use Rattle.kin_script.specs.declared.events.Event.TheVariants as event
-use Rattle.kin_history.specs.Setting.{Setting, nodes, feed_len, IsHistory, after}
-use Rattle.kin_history.specs.Lines.{agreed, line, next, least_ack}
+use Rattle.kin_history.specs.Setting.{Setting, nodes, IsHistory, after}
+use Rattle.kin_history.specs.Lines.{inc, agreed, line, base, least_ack}
 use Rattle.kin_history.specs.Vectors.{is_none, cut_at, unreported_part, cuts, vector}
 use Rattle.kin_history.specs.CutLaws.{IsCutSound, KeepsCuts}
 use Rattle.kin_history.proofs.Made.{Quiet, Makes, new_stamp, stamps, Stays, Back, restarts}
 use Rattle.kin_history.proofs.Sound.{IsSound, sound}
 use Rattle.kin_history.proofs.Seen.{agreed-least}
+use Rattle.kin_history.proofs.Lasts.{rises, stays, history-front}
 
 module _ (set : Setting) where
   -- a cut that is refused, or one that is made
@@ -93,36 +96,18 @@ module _ (set : Setting) where
   sound-cuts (_ ∷ h) i some legal lt = let s = sound-cuts h i some legal.1 lt in record { first = s.first; step = s.step; ends = s.ends; within = s.within }
 
   -- what an event leaves of vectors
-  pub keeps : (e : Event) (h : List Event) (i : ℕ) → 0 < set.parts → IsHistory set (e ∷ h) → i < nodes set → KeepsCuts set h (e ∷ h) i
-  keeps (event.Stamp j n) h i some legal lt = let s = sound-cuts h i some legal.1 lt in let g = sound set h i some legal.1 in
-      record {
-        raised = omega arith;
-        more = omega arith;
-        kept = λ k le. refl;
-        inside = λ k le. ⊎_elim (λ (q : Quiet set h j.0 n i). rw q.line_is refl)
-            (λ (m : Makes set h j.0 n i).
-            let w = end_within 0 (line set h i) (vector set h k i) g.run (s.ends k) in
-            let in_feed : next set h i ≤ feed_len set i = g.within in
-            let differ : next set h i ≢ feed_len set i = m.more in
-            let some_records : 0 < n = legal.0.1 in
-            let beyond : vector set h k i < min (next set h i + n) (feed_len set i) = omega arith in
-            rw m.line_is (upto-append (vector set h k i) (line set h i) (new_stamp set h i n ∷ []) (cond-false (leb (min (next set h i + n) (feed_len set i)) (vector set h k i)) _ _ (lt-leb _ _ beyond))))
-            (stamps set h j.0 n i);
-      }
-  keeps (event.Raise j) h i some legal lt = let grows = agreed-least set h i some (sound set h i some legal.1) in
-      record { raised = cond_both (eqb j.0 i) (least_ack set h i) (agreed set h i) (λ (m : ℕ). agreed set h i ≤ m) (λ _. grows) (λ _. omega arith); more = omega arith; kept = λ k le. refl; inside = λ k le. refl }
-  keeps (event.Restart j) h i some legal lt = let s = sound-cuts h i some legal.1 lt in
-      record { raised = omega arith; more = omega arith; kept = λ k le. refl; inside = λ k le. ⊎_elim (λ (q : Stays set h j.0 i). rw q.line_is refl) (λ (b : Back set h j.0 i). rw b.line_is (upto-upto (vector set h k i) (agreed set h i) (line set h i) (s.within k))) (restarts set h j.0 i) }
-  keeps (event.Cut n) h i some legal lt =
-      ⊎_elim (λ (r : CutStays h n). let c = r.cuts_is in record { raised = omega arith; more = omega arith; kept = λ k le. r.vector_is k i; inside = λ k le. refl })
-      (λ (m : CutMakes h n). let c = m.cuts_is in record { raised = omega arith; more = omega arith; kept = λ k le. m.old_is k i (λ (e : k ≡ cuts set h + 1). omega arith); inside = λ k le. refl })
-      (cut_views h n)
-  keeps _ h i some legal lt = record { raised = omega arith; more = omega arith; kept = λ k le. refl; inside = λ k le. refl }
+  pub keeps : (h : List Event) (e : Event) (i : ℕ) → 0 < set.parts → IsHistory set (e ∷ h) → i < nodes set → KeepsCuts set h (e ∷ h) i
+  keeps h e i some legal lt =
+      let s = sound-cuts h i some legal.1 lt in
+      record { raised = rises set h e i some legal; more = more_cuts e; kept = λ k le. vector-stays e k le; inside = λ k le. stays set h e i (vector set h k i) some legal (s.within k) }
+    where
+      more_cuts : (e : Event) → cuts set h ≤ cuts set (e ∷ h)
+      more_cuts (event.Cut n) = ⊎_elim (λ (r : CutStays h n). let c = r.cuts_is in omega arith) (λ (m : CutMakes h n). let c = m.cuts_is in omega arith) (cut_views h n)
+      more_cuts _ = omega arith
 
-  -- a part of a legal history is legal
-  pub history-front : (h es : List Event) → IsHistory set (after h es) → IsHistory set h
-  history-front h [] legal = legal
-  history-front h (e ∷ es) legal = (history-front (e ∷ h) es legal).1
+      vector-stays : (e : Event) (k : ℕ) → k ≤ cuts set h → vector set (e ∷ h) k i ≡ vector set h k i
+      vector-stays (event.Cut n) k le = ⊎_elim (λ (r : CutStays h n). r.vector_is k i) (λ (m : CutMakes h n). m.old_is k i (λ (e : k ≡ cuts set h + 1). omega arith)) (cut_views h n)
+      vector-stays _ k le = refl
 
   joined : (a b c : List Event) (i : ℕ) → KeepsCuts set a b i → KeepsCuts set b c i → KeepsCuts set a c i
   joined a b c i f g =
@@ -140,4 +125,10 @@ module _ (set : Setting) where
   -- what any later events leave of vectors
   pub keeps-later : (h es : List Event) (i : ℕ) → 0 < set.parts → IsHistory set (after h es) → i < nodes set → KeepsCuts set h (after h es) i
   keeps-later h [] i some legal lt = record { raised = omega arith; more = omega arith; kept = λ k le. refl; inside = λ k le. refl }
-  keeps-later h (e ∷ es) i some legal lt = joined h (e ∷ h) (after h (e ∷ es)) i (keeps e h i some (history-front (e ∷ h) es legal) lt) (keeps-later (e ∷ h) es i some legal lt)
+  keeps-later h (e ∷ es) i some legal lt = joined h (e ∷ h) (after h (e ∷ es)) i (keeps h e i some (history-front set (e ∷ h) es legal) lt) (keeps-later (e ∷ h) es i some legal lt)
+
+  -- what is within a vector lies before the seal of its incarnation
+  pub sealed : (h : List Event) (i k : ℕ) (s : Stamp) → IsSound set h i → has (within (line set h) (vector set h) k i) s ≡ true → s.inc.0 < inc set h i → s.to ≤ base set h i (s.inc.0 + 1)
+  sealed h i k s g in_it old =
+      let count = g.count in
+      (g.places s (upto-has (vector set h k i) (line set h i) s in_it).0).ends (omega arith)

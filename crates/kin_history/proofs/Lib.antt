@@ -2,3 +2,4 @@ pub mod Made
 pub mod Sound
 pub mod Seen
 pub mod Cuts
+pub mod Lasts

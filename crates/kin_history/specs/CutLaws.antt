@@ -1,9 +1,11 @@
 -- Laws of vectors, after every history.
-use Rattle.std.specs.Prelude.{ℕ, ◌≡◌, ◌<◌, ◌≤◌, ◌+◌, List, ◌∷◌}
-use Rattle.kin_ids.specs.Lines.{IsEnd, upto}
+use Rattle.std.specs.Prelude.{ℕ, ◌≡◌, ◌<◌, ◌≤◌, ◌+◌, true, List, ◌∷◌}
+use Rattle.kin_ids.specs.declared.stamps.Stamp.{Stamp}
+use Rattle.kin_ids.specs.Lines.{IsEnd, has, upto}
+use Rattle.kin_ids.specs.Order.{within}
 use Rattle.kin_script.specs.declared.events.Event.{Event}
 use Rattle.kin_history.specs.Setting.{Setting, nodes, IsHistory, after}
-use Rattle.kin_history.specs.Lines.{line, agreed}
+use Rattle.kin_history.specs.Lines.{inc, line, base, agreed}
 use Rattle.kin_history.specs.Vectors.{cuts, vector}
 
 -- No position of a node falls from vector to vector. Each is 0 or the end of a transaction of its line, and not above the agreed one.
@@ -29,3 +31,8 @@ KeepLaw = (set : Setting) (h : List Event) (e : Event) (i : ℕ) → 0 < set.par
 
 abbrev pub LaterLaw : Type 0
 LaterLaw = (set : Setting) (h es : List Event) (i : ℕ) → 0 < set.parts → IsHistory set (after h es) → i < nodes set → KeepsCuts set h (after h es) i
+
+-- A transaction within a vector whose incarnation has ended ends at or before that incarnation's seal, the base of the next one.
+abbrev pub SealedLaw : Type 0
+SealedLaw = (set : Setting) (h : List Event) (i k : ℕ) (s : Stamp) → 0 < set.parts → IsHistory set h →
+    has (within (line set h) (vector set h) k i) s ≡ true → s.inc.0 < inc set h i → s.to ≤ base set h i (s.inc.0 + 1)

@@ -1,4 +1,32 @@
-//! Laws of histories, each the contract of a function that does nothing.
+//! Laws of histories, each the contract of a function that does nothing. They hold for every list of events in range, over
+//! any feeds and one partition or more.
 
-/// Laws of agreed positions.
-pub fn agreement_laws() {}
+ghost use Rattle.kin_history.specs.Laws.{LineLaw, BaseLaw, AgreedLaw, AckLaw, WholeLaw, KeptLaw, LastingLaw, CutBackLaw, LossLaw};
+ghost use Rattle.kin_history.specs.CutLaws.{VectorLaw, KeepLaw, LaterLaw, SealedLaw};
+
+/// What is agreed of a node: where it lies, that every partition has acknowledged, received and reported all up to it, and
+/// that it never falls, nor what it covers changes.
+pub fn agreement_laws()
+    ensures placed { AgreedLaw }
+    ensures acknowledged { AckLaw }
+    ensures delivered { WholeLaw }
+    ensures kept { KeptLaw }
+    ensures lasting { LastingLaw }
+{}
+
+/// What stays of a node's line over crashes and restarts.
+pub fn restart_laws()
+    ensures lines { LineLaw }
+    ensures bases { BaseLaw }
+    ensures cut_back { CutBackLaw }
+    ensures lost { LossLaw }
+{}
+
+/// The vectors of the cuts: they never fall, and neither they nor what lies within them ever change. Nothing past the seal
+/// of an ended incarnation lies within one.
+pub fn vector_laws()
+    ensures rising { VectorLaw }
+    ensures kept { KeepLaw }
+    ensures kept_later { LaterLaw }
+    ensures sealed { SealedLaw }
+{}
