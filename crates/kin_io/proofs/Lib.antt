@@ -1,0 +1,3 @@
+pub mod Growth
+mod Loading
+mod Kept

@@ -1,0 +1,5 @@
+pub mod Outside
+pub mod Plans
+pub mod Shelves
+pub mod Sinks
+pub mod Edges
