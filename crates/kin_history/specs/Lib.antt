@@ -6,3 +6,4 @@ pub mod Outcomes
 pub mod Drain
 pub mod Laws
 pub mod CutLaws
+pub mod MiningLaws

@@ -3,6 +3,7 @@
 
 ghost use Rattle.kin_history.specs.Laws.{LineLaw, BaseLaw, AgreedLaw, AckLaw, WholeLaw, KeptLaw, LastingLaw, CutBackLaw, LossLaw};
 ghost use Rattle.kin_history.specs.CutLaws.{VectorLaw, KeepLaw, LaterLaw, SealedLaw};
+ghost use Rattle.kin_history.specs.MiningLaws.{MiningLaw, DrainLaw, DrainedLaw};
 
 /// What is agreed of a node: where it lies, that every partition has acknowledged, received and reported all up to it, and
 /// that it never falls, nor what it covers changes.
@@ -29,4 +30,12 @@ pub fn vector_laws()
     ensures kept { KeepLaw }
     ensures kept_later { LaterLaw }
     ensures sealed { SealedLaw }
+{}
+
+/// Commits and mining: no epoch is mined that isn't cut and committed by every partition. What is left when a schedule has
+/// ended, event by event, commits and mines every cut epoch.
+pub fn mining_laws()
+    ensures in_order { MiningLaw }
+    ensures drain { DrainLaw }
+    ensures drained { DrainedLaw }
 {}
