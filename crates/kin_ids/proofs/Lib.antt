@@ -8,3 +8,5 @@ pub mod Once
 pub mod Told
 pub mod Joins
 pub mod Orders
+pub mod Whole
+pub mod Shares

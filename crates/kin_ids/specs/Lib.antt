@@ -11,3 +11,4 @@ pub mod Follows
 pub mod Records
 pub mod Operations
 pub mod Parts
+pub mod PartLaws

@@ -3,8 +3,7 @@
 ghost use Rattle.kin_ids.specs.Fair.{ShortestLaw, InTurnLaw};
 ghost use Rattle.kin_ids.specs.Follows as follows;
 ghost use Rattle.kin_ids.specs.Records as records;
-ghost use Rattle.kin_ids.specs.Parts as parts;
-ghost use Rattle.kin_ids.specs.Operations as operations;
+ghost use Rattle.kin_ids.specs.PartLaws as parts;
 ghost use Rattle.kin_ids.specs.Texts as texts;
 
 /// Reading undoes writing.
@@ -34,4 +33,13 @@ pub fn graph_laws()
 pub fn order_laws()
     ensures order { records.OrderLaw }
     ensures line { records.LineLaw }
+{}
+
+/// The operations of a partition take its part of any graph to its part of the graph after their records. So all pieces
+/// of a transaction, applied to the parts of a graph, give the parts of the graph after it.
+pub fn part_laws()
+    ensures empty { parts.EmptyLaw }
+    ensures one_record { parts.RecordLaw }
+    ensures part { parts.PartLaw }
+    ensures pieces { parts.PiecesLaw }
 {}
