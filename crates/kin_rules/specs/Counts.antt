@@ -1,7 +1,6 @@
 -- How many edges and users there are.
 use Rattle.std.specs.Prelude.{ℕ, List, length, filter, map, count_by}
 use Rattle.kin_ids.specs.declared.ids.User.{User}
-use Rattle.kin_ids.specs.declared.ops.Half.{Half}
 use Rattle.kin_ids.specs.Graph.{Graph, outs, ins, tag_users}
 
 -- the present follow edges into u

@@ -2,7 +2,6 @@
 use Rattle.std.specs.Prelude.{ℕ, ◌==◌, ◌&&◌, Bool, List, count_by}
 use Rattle.std.specs.List.{list_any}
 use Rattle.kin_ids.specs.declared.ids.User.{User}
-use Rattle.kin_ids.specs.declared.ops.Half.{Half}
 use Rattle.kin_ids.specs.declared.stamps.Place.{Place}
 use Rattle.kin_ids.specs.Users.{is_before, same_tag}
 use Rattle.kin_ids.specs.Graph.{Graph, TagUse, is_use, outs}

@@ -1,5 +1,5 @@
 -- Hops and closeness.
-use Rattle.std.specs.Prelude.{ℕ, ◌+◌, Option, Some, None}
+use Rattle.std.specs.Prelude.{ℕ, ◌+◌, Bool, true, false, Option, Some, None}
 use Rattle.kin_ids.specs.declared.ids.User.{User}
 use Rattle.kin_rules.specs.declared.kinds.EdgeKind.{EdgeKind}
 use Rattle.kin_rules.specs.declared.kinds.EdgeKind.TheVariants as kind
@@ -20,3 +20,11 @@ hops_rule landmark = record { along = hops; mark = landmark; most = 1 }
 
 abbrev pub close_rule : User → Rule
 close_rule landmark = record { along = close; mark = landmark; most = 3 }
+
+abbrev pub is_follow : EdgeKind → Bool
+is_follow kind.Follow = true
+is_follow kind.Mention = false
+
+abbrev pub edge_cost : EdgeKind → ℕ
+edge_cost kind.Follow = 3
+edge_cost kind.Mention = 1

@@ -1,8 +1,11 @@
 pub mod Counts
 pub mod Walks
 pub mod Costs
+pub mod Kept
 pub mod Instances
 pub mod Nets
+pub mod Support
 pub mod Ranks
 pub mod Exposure
 pub mod Top
+pub mod Rows

@@ -1,13 +1,14 @@
 -- What hops and closeness see of a graph, and their values.
-use Rattle.std.specs.Prelude.{ℕ, List, Option, map}
+use Rattle.std.specs.Prelude.{◌≡◌, ℕ, List, Option, Some, None, map, length, if◌then◌else◌}
+use Rattle.std.specs.List.{list_any, list_all, sum_by}
 use Rattle.kin_ids.specs.declared.ids.User.{User}
-use Rattle.kin_ids.specs.declared.ops.Half.{Half}
-use Rattle.kin_ids.specs.Graph.{Graph, outs, mentions_of, vertices}
+use Rattle.kin_ids.specs.Users.{has_user}
+use Rattle.kin_ids.specs.Graph.{Graph, is_edge, is_mention, outs, mentions_of, vertices}
 use Rattle.kin_rules.specs.declared.kinds.EdgeKind.{EdgeKind}
 use Rattle.kin_rules.specs.declared.kinds.EdgeKind.TheVariants as kind
-use Rattle.kin_rules.specs.Walks.{Rule, Net}
-use Rattle.kin_rules.specs.Costs.{least_cost}
-use Rattle.kin_rules.specs.Instances.{hops_rule, close_rule}
+use Rattle.kin_rules.specs.Walks.{Rule, Net, Step, IsWhole, cost}
+use Rattle.kin_rules.specs.Costs.{least_cost, IsLeastCost}
+use Rattle.kin_rules.specs.Instances.{hops_rule, close_rule, is_follow, edge_cost}
 
 -- the ends of the edges of a kind out of a user: a follow edge ever added is one, present or not
 abbrev pub ends_of : Graph → EdgeKind → User → List User
@@ -25,3 +26,25 @@ hops_of g landmark u = least_cost (net_of (hops_rule landmark) g) u
 -- the least cost of a walk from the landmark to u, where a mention edge costs 1 and a follow edge 3
 abbrev pub close_of : Graph → User → User → Option ℕ
 close_of g landmark u = least_cost (net_of (close_rule landmark) g) u
+
+-- what a rule sees of a graph: an edge for each follow edge ever added and for each mention edge, and both its ends are vertices
+abbrev pub EdgesAreSeen : Type 0
+EdgesAreSeen = (g : Graph) (w u : User) → (has_user (ends_of g kind.Follow w) u ≡ list_any (is_edge w u) g.edges) × (has_user (ends_of g kind.Mention w) u ≡ list_any (is_mention w u) g.mentions)
+
+abbrev pub NetsAreWhole : Type 0
+NetsAreWhole = (r : Rule) (g : Graph) → IsWhole (net_of r g)
+
+-- a walk over follow edges counts its edges, and a walk with a mention edge isn't used
+abbrev pub HopsCountEdges : Type 0
+HopsCountEdges = (g : Graph) (landmark : User) (path : List Step) → cost (net_of (hops_rule landmark) g) path ≡ (if list_all (λ s. is_follow s.kind) path then Some (length path) else None)
+
+-- a walk costs 3 for each follow edge and 1 for each mention edge
+abbrev pub CloseAddsUp : Type 0
+CloseAddsUp = (g : Graph) (landmark : User) (path : List Step) → cost (net_of (close_rule landmark) g) path ≡ Some (sum_by (λ s. edge_cost s.kind) path)
+
+-- hops and closeness are the least of all walks
+abbrev pub HopsAreLeast : Type 0
+HopsAreLeast = (g : Graph) (landmark u : User) → IsLeastCost (net_of (hops_rule landmark) g) u (hops_of g landmark u)
+
+abbrev pub CloseIsLeast : Type 0
+CloseIsLeast = (g : Graph) (landmark u : User) → IsLeastCost (net_of (close_rule landmark) g) u (close_of g landmark u)

@@ -1,7 +1,8 @@
 -- Rank: each user passes half of its rank on, in equal shares, with a million of its own.
-use Rattle.std.specs.Prelude.{ℕ, zero, suc, ◌+◌, ◌/◌, ◌^◌, min, List}
+use Rattle.std.specs.Prelude.{◌≡◌, ◌<◌, ◌≤◌, ℕ, zero, suc, ◌+◌, ◌/◌, ◌^◌, min, true}
 use Rattle.std.specs.List.{sum_by}
 use Rattle.kin_ids.specs.declared.ids.User.{User}
+use Rattle.kin_ids.specs.Users.{has_user}
 use Rattle.kin_ids.specs.Graph.{Graph}
 use Rattle.kin_rules.specs.Counts.{out_count, followers}
 
@@ -21,3 +22,11 @@ share_at g r y = share g y (rank_at g r y)
 -- the rank of x: that of layer 8
 abbrev pub rank : Graph → User → ℕ
 rank g x = rank_at g 8 x
+
+-- no rank passes 10^15
+abbrev pub RanksAreCapped : Type 0
+RanksAreCapped = (g : Graph) (r : ℕ) (x : User) → rank_at g r x ≤ 10 ^ 15
+
+-- a follower follows somebody, so its share is a share among at least one
+abbrev pub FollowersFollow : Type 0
+FollowersFollow = (g : Graph) (x y : User) → has_user (followers g x) y ≡ true → 0 < out_count g y

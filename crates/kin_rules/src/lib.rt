@@ -2,7 +2,9 @@
 #![tactic(auto)]
 
 pub mod kinds;
+pub mod laws;
 pub mod numbers;
+pub mod rows;
 
 pub use kinds::EdgeKind;
 pub use numbers::{KCount, TagNumber, UserNumber};

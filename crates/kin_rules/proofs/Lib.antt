@@ -1,0 +1,11 @@
+pub mod Walks
+pub mod Simple
+pub mod Least
+pub mod Costs
+pub mod Kept
+pub mod Support
+pub mod Nets
+pub mod Orders
+pub mod Top
+pub mod Instances
+pub mod Ranks

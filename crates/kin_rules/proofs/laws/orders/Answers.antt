@@ -1,0 +1,8 @@
+use Rattle.kin_rules.proofs.Top.{users-ordered, tags-ordered}
+use Rattle.kin_rules.proofs.laws.orders.Goals as goal
+
+pub returns-clause-users : goal.returns-clause-users
+returns-clause-users c = users-ordered
+
+pub returns-clause-tags : goal.returns-clause-tags
+returns-clause-tags c = tags-ordered

@@ -1,0 +1,8 @@
+use Rattle.kin_rules.proofs.Ranks.{ranks-capped, followers-follow}
+use Rattle.kin_rules.proofs.laws.ranks.Goals as goal
+
+pub returns-clause-capped : goal.returns-clause-capped
+returns-clause-capped c = ranks-capped
+
+pub returns-clause-shared : goal.returns-clause-shared
+returns-clause-shared c = followers-follow

@@ -1,0 +1,37 @@
+//! Laws of the definitions, each the contract of a function that does nothing.
+
+ghost use Rattle.kin_rules.specs.Costs.{CostIsLeast};
+ghost use Rattle.kin_rules.specs.Kept.{RestIsLeast};
+ghost use Rattle.kin_rules.specs.Nets.{CloseAddsUp, CloseIsLeast, EdgesAreSeen, HopsAreLeast, HopsCountEdges, NetsAreWhole};
+ghost use Rattle.kin_rules.specs.Ranks.{FollowersFollow, RanksAreCapped};
+ghost use Rattle.kin_rules.specs.Support.{SupportIsLeast};
+ghost use Rattle.kin_rules.specs.Top.{TagsAreOrdered, UsersAreOrdered};
+
+/// The least cost is that of all walks. Values at rest are the least costs, be they kept by walks or by edges.
+pub fn least_costs()
+    ensures least { CostIsLeast }
+    ensures rest { RestIsLeast }
+    ensures support { SupportIsLeast }
+{}
+
+/// Hops and closeness on a graph: what they see of it, what a walk costs, and that they are the least of all walks.
+pub fn walks_on_graphs()
+    ensures edges { EdgesAreSeen }
+    ensures whole { NetsAreWhole }
+    ensures hops_cost { HopsCountEdges }
+    ensures close_cost { CloseAddsUp }
+    ensures hops { HopsAreLeast }
+    ensures close { CloseIsLeast }
+{}
+
+/// No rank passes 10^15, and no share is among nobody.
+pub fn ranks()
+    ensures capped { RanksAreCapped }
+    ensures shared { FollowersFollow }
+{}
+
+/// Top lists are cut from the entries in order, and there is one such order.
+pub fn orders()
+    ensures users { UsersAreOrdered }
+    ensures tags { TagsAreOrdered }
+{}
