@@ -3,9 +3,10 @@ use Rattle.std.proofs.Common.{◌≡◌, ◌≤◌, ◌<◌, ◌||◌, ◌⊎◌
 use Rattle.std.proofs.lemmas.Bool.{or_cases, or_right, both_ways}
 use Rattle.kin_ids.specs.declared.ids.User.{User}
 use Rattle.kin_ids.specs.Users.{same_user, has_user}
+use Rattle.kin_ids.specs.Follows.{IsOnce}
 use Rattle.kin_ids.proofs.Same.{same_user-true}
 use Rattle.kin_rules.specs.Walks.{Net, Step, Under, passed, cost, IsWalk, IsWhole, IsRule}
-use Rattle.kin_rules.specs.Kept.{starts, NoRepeat, Within}
+use Rattle.kin_rules.specs.Kept.{starts, Within}
 use Rattle.kin_rules.proofs.Walks.{cost-grows}
 
 -- a list without repeats, all within another, is no longer
@@ -50,7 +51,7 @@ others x (y ∷ ys) vs d w = here (same_user x y) refl d (λ k. others x ys vs k
     here true e h more = absurd cc
     here false e h more = (stays x y vs e w.0, more h)
 
-pub pigeons : (xs vs : List User) → NoRepeat xs → Within xs vs → length xs ≤ length vs
+pub pigeons : (xs vs : List User) → IsOnce same_user xs → Within xs vs → length xs ≤ length vs
 pigeons [] vs n w = omega arith
 pigeons (x ∷ xs) vs n w = omega (arith, shorter x vs w.0, pigeons xs (without x vs) n.1 (others x xs vs n.0 w.1))
 
@@ -61,10 +62,10 @@ pub record Simple (net : Net) (u : User) (c : ℕ) : Type 0 where
   pub least : ℕ
   pub costs : cost net path ≡ Some least
   pub less : least ≤ c
-  pub once : NoRepeat (u ∷ starts path)
+  pub once : IsOnce same_user (u ∷ starts path)
   pub within : Within (u ∷ starts path) net.users
 
-cut : (net : Net) → IsRule net.along net.most → (u x : User) (ws : List Step) (c : ℕ) → IsWalk net x ws → cost net ws ≡ Some c → NoRepeat (x ∷ starts ws) → Within (x ∷ starts ws) net.users → has_user (x ∷ starts ws) u ≡ true → Simple net u c
+cut : (net : Net) → IsRule net.along net.most → (u x : User) (ws : List Step) (c : ℕ) → IsWalk net x ws → cost net ws ≡ Some c → IsOnce same_user (x ∷ starts ws) → Within (x ∷ starts ws) net.users → has_user (x ∷ starts ws) u ≡ true → Simple net u c
 cut net r u x [] c w is once within h = here (or_cases (same_user u x) false h)
   where
     here : (same_user u x ≡ true) ⊎ (false ≡ true) → Simple net u c

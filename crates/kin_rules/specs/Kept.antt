@@ -2,6 +2,7 @@
 use Rattle.std.specs.Prelude.{◌≡◌, ℕ, true, false, List, [], ◌∷◌, Option, Some, if◌then◌else◌}
 use Rattle.kin_ids.specs.declared.ids.User.{User}
 use Rattle.kin_ids.specs.Users.{same_user, has_user}
+use Rattle.kin_ids.specs.Follows.{IsOnce}
 use Rattle.kin_rules.specs.declared.kinds.EdgeKind.{EdgeKind}
 use Rattle.kin_rules.specs.Walks.{Net, Step, AtMost, Under, IsEdge, IsWalk, IsWhole, IsRule, cost}
 use Rattle.kin_rules.specs.Costs.{least_cost}
@@ -9,10 +10,6 @@ use Rattle.kin_rules.specs.Costs.{least_cost}
 abbrev pub starts : List Step → List User
 starts [] = []
 starts (s ∷ ws) = s.start ∷ starts ws
-
-abbrev pub NoRepeat : List User → Type 0
-NoRepeat [] = Unit {0}
-NoRepeat (x ∷ xs) = (has_user xs x ≡ false) × NoRepeat xs
 
 abbrev pub Within : List User → List User → Type 0
 Within [] vs = Unit {0}
@@ -28,7 +25,7 @@ pub record IsKept (net : Net) (f : User → Option ℕ) (u : User) (n : ℕ) : T
   pub path : List Step
   pub walk : IsWalk net u path
   pub costs : cost net path ≡ Some n
-  pub once : NoRepeat (u ∷ starts path)
+  pub once : IsOnce same_user (u ∷ starts path)
   pub low : Low net f u path
   pub within : Within (u ∷ starts path) net.users
 

@@ -3,7 +3,8 @@ use Rattle.std.specs.Prelude.{◌≡◌, ℕ, List, Option, Some, None, map, len
 use Rattle.std.specs.List.{list_any, list_all, sum_by}
 use Rattle.kin_ids.specs.declared.ids.User.{User}
 use Rattle.kin_ids.specs.Users.{has_user}
-use Rattle.kin_ids.specs.Graph.{Graph, is_edge, is_mention, outs, mentions_of, vertices}
+use Rattle.kin_ids.specs.Graph.{Graph, is_mention, outs, mentions_of, vertices}
+use Rattle.kin_ids.specs.Follows.{was_added}
 use Rattle.kin_rules.specs.declared.kinds.EdgeKind.{EdgeKind}
 use Rattle.kin_rules.specs.declared.kinds.EdgeKind.TheVariants as kind
 use Rattle.kin_rules.specs.Walks.{Rule, Net, Step, IsWhole, cost}
@@ -27,10 +28,11 @@ hops_of g landmark u = least_cost (net_of (hops_rule landmark) g) u
 abbrev pub close_of : Graph → User → User → Option ℕ
 close_of g landmark u = least_cost (net_of (close_rule landmark) g) u
 
--- what a rule sees of a graph: an edge for each follow edge ever added and for each mention edge, and both its ends are vertices
+-- an edge is seen for each follow edge ever added and for each mention edge
 abbrev pub EdgesAreSeen : Type 0
-EdgesAreSeen = (g : Graph) (w u : User) → (has_user (ends_of g kind.Follow w) u ≡ list_any (is_edge w u) g.edges) × (has_user (ends_of g kind.Mention w) u ≡ list_any (is_mention w u) g.mentions)
+EdgesAreSeen = (g : Graph) (w u : User) → (has_user (ends_of g kind.Follow w) u ≡ was_added g w u) × (has_user (ends_of g kind.Mention w) u ≡ list_any (is_mention w u) g.mentions)
 
+-- both ends of an edge are vertices
 abbrev pub NetsAreWhole : Type 0
 NetsAreWhole = (r : Rule) (g : Graph) → IsWhole (net_of r g)
 

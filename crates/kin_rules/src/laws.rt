@@ -8,14 +8,14 @@ ghost use Rattle.kin_rules.specs.Support.{SupportIsLeast};
 ghost use Rattle.kin_rules.specs.Top.{TagsAreOrdered, UsersAreOrdered};
 
 /// The least cost is that of all walks. Values at rest are the least costs, be they kept by walks or by edges.
-pub fn least_costs()
+pub fn cost_laws()
     ensures least { CostIsLeast }
     ensures rest { RestIsLeast }
     ensures support { SupportIsLeast }
 {}
 
 /// Hops and closeness on a graph: what they see of it, what a walk costs, and that they are the least of all walks.
-pub fn walks_on_graphs()
+pub fn walk_laws()
     ensures edges { EdgesAreSeen }
     ensures whole { NetsAreWhole }
     ensures hops_cost { HopsCountEdges }
@@ -25,13 +25,13 @@ pub fn walks_on_graphs()
 {}
 
 /// No rank passes 10^15, and no share is among nobody.
-pub fn ranks()
+pub fn rank_laws()
     ensures capped { RanksAreCapped }
     ensures shared { FollowersFollow }
 {}
 
 /// Top lists are cut from the entries in order, and there is one such order.
-pub fn orders()
+pub fn top_laws()
     ensures users { UsersAreOrdered }
     ensures tags { TagsAreOrdered }
 {}

@@ -1,5 +1,5 @@
 use Rattle.kin_rules.proofs.Top.{users-ordered, tags-ordered}
-use Rattle.kin_rules.proofs.laws.orders.Goals as goal
+use Rattle.kin_rules.proofs.laws.top_laws.Goals as goal
 
 pub returns-clause-users : goal.returns-clause-users
 returns-clause-users c = users-ordered

@@ -1,6 +1,6 @@
 use Rattle.kin_rules.proofs.Nets.{edges-seen, nets-whole}
 use Rattle.kin_rules.proofs.Instances.{hops-count, close-adds, hops-least, close-least}
-use Rattle.kin_rules.proofs.laws.walks_on_graphs.Goals as goal
+use Rattle.kin_rules.proofs.laws.walk_laws.Goals as goal
 
 pub returns-clause-edges : goal.returns-clause-edges
 returns-clause-edges c = edges-seen

@@ -1,7 +1,7 @@
 use Rattle.kin_rules.proofs.Costs.{least-law}
 use Rattle.kin_rules.proofs.Kept.{rest-law}
 use Rattle.kin_rules.proofs.Support.{support-law}
-use Rattle.kin_rules.proofs.laws.least_costs.Goals as goal
+use Rattle.kin_rules.proofs.laws.cost_laws.Goals as goal
 
 pub returns-clause-least : goal.returns-clause-least
 returns-clause-least c = least-law

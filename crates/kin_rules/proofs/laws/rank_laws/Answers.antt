@@ -1,5 +1,5 @@
 use Rattle.kin_rules.proofs.Ranks.{ranks-capped, followers-follow}
-use Rattle.kin_rules.proofs.laws.ranks.Goals as goal
+use Rattle.kin_rules.proofs.laws.rank_laws.Goals as goal
 
 pub returns-clause-capped : goal.returns-clause-capped
 returns-clause-capped c = ranks-capped
