@@ -8,4 +8,6 @@ pub mod Nets
 pub mod Orders
 pub mod Top
 pub mod Instances
+pub mod Counts
+pub mod Exposure
 pub mod Ranks

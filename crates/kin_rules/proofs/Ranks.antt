@@ -1,13 +1,14 @@
 -- Ranks are capped, and followers follow somebody.
-use Rattle.std.proofs.Common.{◌≡◌, ◌≤◌, ◌<◌, ◌+◌, ◌^◌, ◌⊎◌, inl, inr, ℕ, zero, suc, min, Bool, true, false, List, [], ◌∷◌, cond, filter, map, arith, refl}
-use Rattle.std.specs.List.{sum_by, count_by}
-use Rattle.std.proofs.lemmas.Bool.{or_cases}
+use Rattle.std.proofs.Common.{◌≡◌, ◌≤◌, ◌<◌, ◌+◌, ◌&&◌, ◌∙◌, sym, ◌^◌, ◌⊎◌, inl, inr, ℕ, zero, suc, min, Bool, true, false, List, [], ◌∷◌, cond, filter, map, arith}
+use Rattle.std.specs.List.{list_any, sum_by, count_by}
+use Rattle.std.proofs.lemmas.Bool.{or_cases, and_parts}
 use Rattle.std.proofs.lemmas.List.Sums.{sum_by-cons}
 use Rattle.kin_ids.specs.declared.ids.User.{User}
 use Rattle.kin_ids.specs.declared.ops.Half.{Half}
-use Rattle.kin_ids.specs.Users.{same_user, has_user}
-use Rattle.kin_ids.specs.Graph.{Edge, half_out, half_in}
+use Rattle.kin_ids.specs.Users.{same_user}
+use Rattle.kin_ids.specs.Graph.{Edge, half_out, is_edge}
 use Rattle.kin_rules.specs.Counts.{followers}
+use Rattle.kin_rules.proofs.Counts.{followers-present}
 use Rattle.kin_rules.specs.Ranks.{share, rank_at, RanksAreCapped, FollowersFollow}
 
 min-first : (a b : ℕ) → min a b ≤ a
@@ -28,29 +29,17 @@ counted-cons y e es = here (same_user y e.start)
     here true = sum_by-cons (λ (h : Half). cond h.present 1 0) (half_out e) (map half_out (filter (λ x. same_user y x.start) es))
     here false = omega arith
 
-abbrev following : User → List Edge → List Half
-following x es = filter (λ (h : Half). h.present) (map half_in (filter (λ e. same_user x e.end) es))
-
-follower-counts : (x y : User) (es : List Edge) → has_user (map (λ (h : Half). h.other) (following x es)) y ≡ true → 0 < counted y es
-follower-counts x y [] h = absurd cc
-follower-counts x y (e ∷ es) h = here (same_user x e.end) h (follower-counts x y es)
+present-counts : (x y : User) (es : List Edge) → list_any (λ e. is_edge y x e && e.present) es ≡ true → 0 < counted y es
+present-counts x y [] h = absurd cc
+present-counts x y (e ∷ es) h = rw (counted-cons y e es) (here (or_cases (is_edge y x e && e.present) (list_any (λ d. is_edge y x d && d.present) es) h) (present-counts x y es))
   where
-    more : 0 < counted y es → 0 < counted y (e ∷ es)
-    more k = rw (counted-cons y e es) (omega (arith, k))
-
-    present : (b : Bool) → e.present ≡ b → has_user (map (λ (h : Half). h.other) (cond b (half_in e ∷ following x es) (following x es))) y ≡ true
-        → (has_user (map (λ (h : Half). h.other) (following x es)) y ≡ true → 0 < counted y es) → 0 < counted y (e ∷ es)
-    present false q h old = more (old h)
-    present true q h old = this (or_cases (same_user y e.start) (has_user (map (λ (h : Half). h.other) (following x es)) y) h)
-      where
-        this : (same_user y e.start ≡ true) ⊎ (has_user (map (λ (h : Half). h.other) (following x es)) y ≡ true) → 0 < counted y (e ∷ es)
-        this (inl k) = rw (counted-cons y e es, k, q) (omega arith)
-        this (inr k) = more (old k)
-
-    here : (b : Bool) → has_user (map (λ (h : Half). h.other) (filter (λ (h : Half). h.present) (map half_in (cond b (e ∷ filter (λ d. same_user x d.end) es) (filter (λ d. same_user x d.end) es))))) y ≡ true
-        → (has_user (map (λ (h : Half). h.other) (following x es)) y ≡ true → 0 < counted y es) → 0 < counted y (e ∷ es)
-    here false h old = more (old h)
-    here true h old = present e.present refl h old
+    here : ((is_edge y x e && e.present) ≡ true) ⊎ (list_any (λ d. is_edge y x d && d.present) es ≡ true) → (list_any (λ d. is_edge y x d && d.present) es ≡ true → 0 < counted y es)
+        → 0 < cond (same_user y e.start) (cond e.present 1 0) 0 + counted y es
+    here (inr k) old = omega (arith, old k)
+    here (inl k) old =
+        let parts = and_parts (is_edge y x e) e.present k in
+        let ends = and_parts (same_user y e.start) (same_user x e.end) parts.0 in
+        rw (ends.0, parts.1) (omega arith)
 
 pub followers-follow : FollowersFollow
-followers-follow g x y h = follower-counts x y g.edges h
+followers-follow g x y h = present-counts x y g.edges (sym (followers-present g x y) ∙ h)

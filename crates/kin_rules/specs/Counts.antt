@@ -1,6 +1,8 @@
 -- How many edges and users there are.
-use Rattle.std.specs.Prelude.{ℕ, List, length, filter, map, count_by}
+use Rattle.std.specs.Prelude.{◌≡◌, ℕ, List, length, filter, map, count_by}
 use Rattle.kin_ids.specs.declared.ids.User.{User}
+use Rattle.kin_ids.specs.Users.{has_user}
+use Rattle.kin_ids.specs.Follows.{is_present}
 use Rattle.kin_ids.specs.Graph.{Graph, outs, ins, tag_users}
 
 -- the present follow edges into u
@@ -18,3 +20,7 @@ tag_count g t = length (tag_users g t)
 -- the users who follow u now
 abbrev pub followers : Graph → User → List User
 followers g u = map (λ h. h.other) (filter (λ h. h.present) (ins g u))
+
+-- somebody follows u now where that edge is present
+abbrev pub FollowersArePresent : Type 0
+FollowersArePresent = (g : Graph) (u w : User) → has_user (followers g u) w ≡ is_present g w u

@@ -1,5 +1,5 @@
 -- Values that users keep, each the cost of a walk, and when they are the least costs.
-use Rattle.std.specs.Prelude.{◌≡◌, ℕ, true, false, List, [], ◌∷◌, Option, Some, if◌then◌else◌}
+use Rattle.std.specs.Prelude.{◌≡◌, ℕ, true, List, [], ◌∷◌, Option, Some, if◌then◌else◌}
 use Rattle.kin_ids.specs.declared.ids.User.{User}
 use Rattle.kin_ids.specs.Users.{same_user, has_user}
 use Rattle.kin_ids.specs.Follows.{IsOnce}

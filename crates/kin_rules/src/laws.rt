@@ -1,6 +1,8 @@
 //! Laws of the definitions, each the contract of a function that does nothing.
 
 ghost use Rattle.kin_rules.specs.Costs.{CostIsLeast};
+ghost use Rattle.kin_rules.specs.Counts.{FollowersArePresent};
+ghost use Rattle.kin_rules.specs.Exposure.{ExposuresAddUp, ExposuresAreFew};
 ghost use Rattle.kin_rules.specs.Kept.{RestIsLeast};
 ghost use Rattle.kin_rules.specs.Nets.{CloseAddsUp, CloseIsLeast, EdgesAreSeen, HopsAreLeast, HopsCountEdges, NetsAreWhole};
 ghost use Rattle.kin_rules.specs.Ranks.{FollowersFollow, RanksAreCapped};
@@ -24,10 +26,17 @@ pub fn walk_laws()
     ensures close { CloseIsLeast }
 {}
 
-/// No rank passes 10^15, and no share is among nobody.
+/// Followers are those whose edge is present. No rank passes 10^15, and no share is among nobody.
 pub fn rank_laws()
+    ensures followers { FollowersArePresent }
     ensures capped { RanksAreCapped }
     ensures shared { FollowersFollow }
+{}
+
+/// Each user of a tag counts under one exposure, below the number of the tag's users.
+pub fn exposure_laws()
+    ensures few { ExposuresAreFew }
+    ensures all { ExposuresAddUp }
 {}
 
 /// Top lists are cut from the entries in order, and there is one such order.

@@ -1,3 +1,4 @@
+use Rattle.kin_rules.proofs.Counts.{followers-present}
 use Rattle.kin_rules.proofs.Ranks.{ranks-capped, followers-follow}
 use Rattle.kin_rules.proofs.laws.rank_laws.Goals as goal
 
@@ -6,3 +7,6 @@ returns-clause-capped c = ranks-capped
 
 pub returns-clause-shared : goal.returns-clause-shared
 returns-clause-shared c = followers-follow
+
+pub returns-clause-followers : goal.returns-clause-followers
+returns-clause-followers c = followers-present
