@@ -6,3 +6,4 @@ pub mod Lasts
 pub mod Firsts
 pub mod Mined
 pub mod Drained
+pub mod Ordered

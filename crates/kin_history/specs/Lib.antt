@@ -7,3 +7,4 @@ pub mod Drain
 pub mod Laws
 pub mod CutLaws
 pub mod MiningLaws
+pub mod OrderLaws

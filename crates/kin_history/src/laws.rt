@@ -3,6 +3,7 @@
 
 ghost use Rattle.kin_history.specs.Laws.{LineLaw, BaseLaw, AgreedLaw, AckLaw, WholeLaw, KeptLaw, LastingLaw, CutBackLaw, LossLaw};
 ghost use Rattle.kin_history.specs.CutLaws.{VectorLaw, KeepLaw, LaterLaw, SealedLaw};
+ghost use Rattle.kin_history.specs.OrderLaws.{OfLinesLaw, SettledLaw};
 ghost use Rattle.kin_history.specs.MiningLaws.{MiningLaw, DrainLaw, DrainedLaw};
 
 /// What is agreed of a node: where it lies, that every partition has acknowledged, received and reported all up to it, and
@@ -30,6 +31,13 @@ pub fn vector_laws()
     ensures kept { KeepLaw }
     ensures kept_later { LaterLaw }
     ensures sealed { SealedLaw }
+{}
+
+/// The agreed order of the cut epochs has exactly the records of the surviving transactions within the vectors, each once,
+/// and no later event changes it.
+pub fn order_laws()
+    ensures of_lines { OfLinesLaw }
+    ensures settled { SettledLaw }
 {}
 
 /// Commits and mining: no epoch is mined that isn't cut and committed by every partition. What is left when a schedule has

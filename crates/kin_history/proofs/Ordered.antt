@@ -1,0 +1,81 @@
+-- The agreed order is that of the lines' transactions, and later events leave it.
+use Rattle.std.proofs.Common.{◌≡◌, ℕ, zero, suc, ◌<◌, ◌≤◌, List, [], ◌∷◌, ◌++◌, length, take, refl, sym, ◌∙◌, ap, arith, add-one}
+use Rattle.kin_ids.specs.declared.ops.Record.{Record}
+use Rattle.kin_ids.specs.declared.stamps.Stamp.{Stamp}
+use Rattle.kin_ids.specs.Lines.{IsLine, IsEnd, end_of, upto, past}
+use Rattle.kin_ids.specs.Graph.{empty_graph}
+use Rattle.kin_ids.specs.Order.{feed_at, entries, between, of_epoch, order, folded, within}
+use Rattle.kin_ids.specs.Records.{DoNotFall, joined}
+use Rattle.kin_ids.proofs.Lines.{line_grows, upto-line, upto-ends, upto-end, past-line}
+use Rattle.kin_ids.proofs.Joins.{between-none, between-front, entries-split, joined-is, past-end_of}
+use Rattle.kin_ids.proofs.Orders.{order-law}
+use Rattle.kin_script.specs.declared.events.Event.{Event}
+use Rattle.kin_history.specs.Setting.{Setting, nodes, IsHistory, after}
+use Rattle.kin_history.specs.Lines.{line}
+use Rattle.kin_history.specs.Vectors.{cuts, vector}
+use Rattle.kin_history.specs.CutLaws.{IsCutSound}
+use Rattle.kin_history.specs.OrderLaws.{line_entries, epoch_of_lines, order_of_lines, IsOfLines, IsSettled}
+use Rattle.kin_history.proofs.Sound.{IsSound, sound}
+use Rattle.kin_history.proofs.Cuts.{sound-cuts, keeps-later}
+
+-- the records of stamps that follow each other are those from the first to the last
+line-entries : (e i : ℕ) (feed : List Record) (at : ℕ) (ss : List Stamp) → IsLine at ss → line_entries e i feed ss ≡ entries e i at (between feed at (end_of at ss))
+line-entries e i feed at [] l = rw (between-none feed at) refl
+line-entries e i feed at (s ∷ ss) l =
+    let some : at < s.to = l.1 in
+    ap (λ (n : ℕ). entries e i n (between feed n s.to) ++ line_entries e i feed ss) l.0
+    ∙ (ap (λ xs. entries e i at (between feed at s.to) ++ xs) (line-entries e i feed s.to ss l.2)
+    ∙ sym (entries-split e i feed at s.to (end_of s.to ss) (omega arith) (line_grows s.to ss l.2)))
+
+-- the records of the transactions between two ends of a line
+between-entries : (e i : ℕ) (feed : List Record) (ss : List Stamp) (was now : ℕ) → IsLine 0 ss → IsEnd 0 ss was → IsEnd 0 ss now → was ≤ now → line_entries e i feed (past was (upto now ss)) ≡ entries e i was (between feed was now)
+between-entries e i feed ss was now l from to le =
+    let front = upto-line 0 now ss l in
+    let inside = upto-ends 0 now was ss l from le in
+    line-entries e i feed was (past was (upto now ss)) (past-line 0 was (upto now ss) front inside)
+    ∙ ap (λ (n : ℕ). entries e i was (between feed was n)) (past-end_of 0 was (upto now ss) front inside ∙ upto-end 0 now ss l to)
+
+-- vectors that agree on the nodes give one order
+of_epoch-alike : (feeds : List (List Record)) (e : ℕ) (a b c d : ℕ → ℕ) (n : ℕ) → ((i : ℕ) → i < n → a i ≡ c i) → ((i : ℕ) → i < n → b i ≡ d i) → of_epoch feeds e a b n ≡ of_epoch feeds e c d n
+of_epoch-alike feeds e a b c d zero f g = refl
+of_epoch-alike feeds e a b c d (suc n) f g = rw (of_epoch-alike feeds e a b c d n (λ i lt. f i (omega arith)) (λ i lt. g i (omega arith)), f n (omega arith), g n (omega arith)) refl
+
+pub order-alike : (feeds : List (List Record)) (U V : ℕ → ℕ → ℕ) (k : ℕ) → ((j i : ℕ) → j ≤ k → i < length feeds → U j i ≡ V j i) → order feeds U k ≡ order feeds V k
+order-alike feeds U V zero same = refl
+order-alike feeds U V (suc k) same = rw (order-alike feeds U V k (λ j i le lt. same j i (omega arith) lt), of_epoch-alike feeds (suc k) (U k) (U (suc k)) (V k) (V (suc k)) (length feeds) (λ i lt. same k i (omega arith) lt) (λ i lt. same (suc k) i (omega arith) lt)) refl
+
+module _ (set : Setting) (h : List Event) (some : 0 < set.parts) (legal : IsHistory set h) where
+  not-falling : (k : ℕ) → k ≤ cuts set h → DoNotFall set.feeds (vector set h) k
+  not-falling k le = record {
+    start = λ i lt. (sound-cuts set h i some legal lt).first;
+    grow = λ j i less lt. (sound-cuts set h i some legal lt).step j (omega arith);
+  }
+
+  epoch-of-lines : (k n : ℕ) → k < cuts set h → n ≤ nodes set →
+      of_epoch set.feeds (suc k) (vector set h k) (vector set h (suc k)) n ≡ epoch_of_lines set.feeds (line set h) (suc k) (vector set h k) (vector set h (suc k)) n
+  epoch-of-lines k zero lt le = refl
+  epoch-of-lines k (suc i) lt le =
+      let s : IsCutSound set h i = sound-cuts set h i some legal (omega arith) in
+      let g : IsSound set h i = sound set h i some legal in
+      let grows : vector set h k i ≤ vector set h (suc k) i = rw (add-one k) at (s.step k lt) in
+      rw (epoch-of-lines k i lt (omega arith), between-entries (suc k) i (feed_at set.feeds i) (line set h i) (vector set h k i) (vector set h (suc k) i) g.run (s.ends k) (s.ends (suc k)) grows) refl
+
+  order-of-lines : (k : ℕ) → k ≤ cuts set h → order set.feeds (vector set h) k ≡ order_of_lines set.feeds (line set h) (vector set h) k
+  order-of-lines zero le = refl
+  order-of-lines (suc k) le = rw (order-of-lines k (omega arith), epoch-of-lines k (nodes set) (omega arith) (omega arith)) refl
+
+  joined-within : (k i : ℕ) → i < nodes set → joined (feed_at set.feeds i) (within (line set h) (vector set h) k i) ≡ take (vector set h k i) (feed_at set.feeds i)
+  joined-within k i lt =
+      let s = sound-cuts set h i some legal lt in
+      let g = sound set h i some legal in
+      let v = vector set h k i in
+      joined-is (feed_at set.feeds i) 0 (upto v (line set h i)) (upto-line 0 v (line set h i) g.run)
+      ∙ (ap (between (feed_at set.feeds i) 0) (upto-end 0 v (line set h i) g.run (s.ends k)) ∙ between-front (feed_at set.feeds i) v)
+
+  pub of-lines : (k : ℕ) → k ≤ cuts set h → IsOfLines set h k
+  of-lines k le = record { all = order-of-lines k le; once = order-law set.feeds (vector set h) k (not-falling k le); each = joined-within k }
+
+pub settled : (set : Setting) (h es : List Event) (k : ℕ) → 0 < set.parts → IsHistory set (after h es) → k ≤ cuts set h → IsSettled set h (after h es) k
+settled set h es k some legal le =
+    let same : order set.feeds (vector set (after h es)) k ≡ order set.feeds (vector set h) k = order-alike set.feeds (vector set (after h es)) (vector set h) k (λ j i j_le lt. (keeps-later set h es i some legal lt).kept j (omega arith)) in
+    record { records = same; graph = ap (folded empty_graph) same }
