@@ -7,3 +7,4 @@ pub mod Firsts
 pub mod Mined
 pub mod Drained
 pub mod Ordered
+pub mod Refused

@@ -8,3 +8,4 @@ pub mod Laws
 pub mod CutLaws
 pub mod MiningLaws
 pub mod OrderLaws
+pub mod RefusalLaws

@@ -5,6 +5,7 @@ ghost use Rattle.kin_history.specs.Laws.{LineLaw, BaseLaw, AgreedLaw, AckLaw, Wh
 ghost use Rattle.kin_history.specs.CutLaws.{VectorLaw, KeepLaw, LaterLaw, SealedLaw};
 ghost use Rattle.kin_history.specs.OrderLaws.{OfLinesLaw, SettledLaw};
 ghost use Rattle.kin_history.specs.MiningLaws.{MiningLaw, DrainLaw, DrainedLaw};
+ghost use Rattle.kin_history.specs.RefusalLaws.{RefusedLaw};
 
 /// What is agreed of a node: where it lies, that every partition has acknowledged, received and reported all up to it, and
 /// that it never falls, nor what it covers changes.
@@ -46,4 +47,9 @@ pub fn mining_laws()
     ensures in_order { MiningLaw }
     ensures drain { DrainLaw }
     ensures drained { DrainedLaw }
+{}
+
+/// A refused event changes nothing.
+pub fn refusal_laws()
+    ensures { RefusedLaw }
 {}
