@@ -1,6 +1,6 @@
 -- Laws of vectors, by the events.
 use Rattle.std.proofs.Common.{◌≡◌, ◌≢◌, ℕ, ◌+◌, ◌<◌, ◌≤◌, Bool, true, false, eqb, ◌&&◌, ◌⊎◌, inl, inr, ⊎_elim, List, [], ◌∷◌, Option, Some, None, refl, ◌∙◌, subst, arith}
-use Rattle.std.proofs.lemmas.Bool.{cond_both, cond-true, cond-false, and_from, and_left, and_right, eq-eqb, ne_eqb, cases_eq}
+use Rattle.std.proofs.lemmas.Bool.{false_from_ne_true, cond_both, cond-true, cond-false, and_from, and_left, and_right, eq-eqb, ne_eqb, cases_eq}
 use Rattle.kin_ids.specs.declared.stamps.Stamp.{Stamp}
 use Rattle.kin_ids.specs.Order.{within}
 use Rattle.kin_ids.specs.Lines.{IsEnd, end_of, has, upto, past}
@@ -15,7 +15,7 @@ use Rattle.kin_history.specs.CutLaws.{IsCutSound, KeepsCuts}
 use Rattle.kin_history.proofs.Made.{Quiet, Makes, new_stamp, stamps, Stays, Back, restarts}
 use Rattle.kin_history.proofs.Sound.{IsSound, sound}
 use Rattle.kin_history.proofs.Seen.{agreed-least}
-use Rattle.kin_history.proofs.Lasts.{rises, stays, history-front}
+use Rattle.kin_history.proofs.Lasts.{rises, stays, history-front, keeps-bases-later}
 
 module _ (set : Setting) where
   -- a cut that is refused, or one that is made
@@ -132,3 +132,13 @@ module _ (set : Setting) where
   sealed h i k s g in_it old =
       let count = g.count in
       (g.places s (upto-has (vector set h k i) (line set h i) s in_it).0).ends (omega arith)
+
+  -- what an ended incarnation stamped past its seal is within no vector
+  pub never-within : (h es : List Event) (i k : ℕ) (s : Stamp) → 0 < set.parts → IsHistory set (after h es) → s.inc.0 < inc set h i → base set h i (s.inc.0 + 1) < s.to →
+      has (within (line set (after h es)) (vector set (after h es)) k i) s ≡ false
+  never-within h es i k s some legal old past_seal = false_from_ne_true _ (λ in_it.
+      let later = keeps-bases-later set h es i some legal in
+      let more = later.more in
+      let same = later.kept (s.inc.0 + 1) (omega arith) in
+      let low = sealed (after h es) i k s (sound set (after h es) i some legal) in_it (omega arith) in
+      omega arith)

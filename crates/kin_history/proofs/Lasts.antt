@@ -13,9 +13,9 @@ use Rattle.kin_script.specs.declared.outcomes.Refusal.TheVariants as refusal
 use Rattle.kin_history.specs.Setting.{Setting, feed_len, IsHistory, after}
 use Rattle.kin_history.specs.Lines.{comes_back, up, inc, line, next, least_ack, agreed}
 use Rattle.kin_history.specs.Outcomes.{outcome_of}
-use Rattle.kin_history.specs.Laws.{IsAccepted, IsCutBack}
+use Rattle.kin_history.specs.Laws.{IsAccepted, IsCutBack, KeepsBases}
 use Rattle.kin_history.proofs.Made.{Quiet, Makes, new_stamp, stamps, Stays, Back, restarts}
-use Rattle.kin_history.proofs.Sound.{new_base, sound}
+use Rattle.kin_history.proofs.Sound.{IsSound, old_base, new_base, sound}
 use Rattle.kin_history.proofs.Seen.{agreed-least}
 
 -- on a line the front up to a position is what ends at or before it
@@ -113,3 +113,20 @@ module _ (set : Setting) where
         begins = new_base set h j.0 j.0 back g;
         others = λ i ne. cond-false (eqb j.0 i && comes_back (up set h i) (inc set h i)) _ _ (and_left _ _ (ne_eqb j.0 i (λ e. ne (sym e))));
       }
+
+  -- a restart adds a base, and no event changes one
+  keeps-bases : (h : List Event) (e : Event) (i : ℕ) → IsSound set h i → KeepsBases set h (e ∷ h) i
+  keeps-bases h (event.Restart j) i g =
+      ⊎_elim (λ (q : Stays set h j.0 i). record { more = rw q.inc_is (omega arith); kept = λ c le. rw q.bases_is refl })
+      (λ (b : Back set h j.0 i). record { more = rw b.inc_is (omega arith); kept = λ c le. old_base set h j.0 i c b g le })
+      (restarts set h j.0 i)
+  keeps-bases h _ i g = record { more = omega arith; kept = λ c le. refl }
+
+  pub keeps-bases-later : (h es : List Event) (i : ℕ) → 0 < set.parts → IsHistory set (after h es) → KeepsBases set h (after h es) i
+  keeps-bases-later h [] i some legal = record { more = omega arith; kept = λ c le. refl }
+  keeps-bases-later h (e ∷ es) i some legal =
+      let one = keeps-bases h e i (sound set h i some (history-front h (e ∷ es) legal)) in
+      let rest = keeps-bases-later (e ∷ h) es i some legal in
+      let first = one.more in
+      let later = rest.more in
+      record { more = omega arith; kept = λ c le. rest.kept c (omega arith) ∙ one.kept c le }

@@ -1,5 +1,5 @@
 -- Laws of vectors, after every history.
-use Rattle.std.specs.Prelude.{ℕ, ◌≡◌, ◌<◌, ◌≤◌, ◌+◌, true, List, ◌∷◌}
+use Rattle.std.specs.Prelude.{ℕ, ◌≡◌, ◌<◌, ◌≤◌, ◌+◌, true, false, List, ◌∷◌}
 use Rattle.kin_ids.specs.declared.stamps.Stamp.{Stamp}
 use Rattle.kin_ids.specs.Lines.{IsEnd, has, upto}
 use Rattle.kin_ids.specs.Order.{within}
@@ -36,3 +36,8 @@ LaterLaw = (set : Setting) (h es : List Event) (i : ℕ) → 0 < set.parts → I
 abbrev pub SealedLaw : Type 0
 SealedLaw = (set : Setting) (h : List Event) (i k : ℕ) (s : Stamp) → 0 < set.parts → IsHistory set h →
     has (within (line set h) (vector set h) k i) s ≡ true → s.inc.0 < inc set h i → s.to ≤ base set h i (s.inc.0 + 1)
+
+-- So what an ended incarnation stamped past its seal is within no vector, whatever comes later.
+abbrev pub NeverWithinLaw : Type 0
+NeverWithinLaw = (set : Setting) (h es : List Event) (i k : ℕ) (s : Stamp) → 0 < set.parts → IsHistory set (after h es) →
+    s.inc.0 < inc set h i → base set h i (s.inc.0 + 1) < s.to → has (within (line set (after h es)) (vector set (after h es)) k i) s ≡ false

@@ -102,3 +102,11 @@ CutBackLaw = (set : Setting) (h : List Event) (j : IngestId) → 0 < set.parts �
 abbrev pub LossLaw : Type 0
 LossLaw = (set : Setting) (h : List Event) (e : Event) (i : ℕ) (s : Stamp) → 0 < set.parts → IsHistory set (e ∷ h) →
     has (line set h i) s ≡ true → has (line set (e ∷ h) i) s ≡ false → agreed set h i < s.to
+
+-- Later events may add incarnations with their bases, and change none that there is.
+pub record KeepsBases (set : Setting) (was now : List Event) (i : ℕ) : Type 0 where
+  pub more : inc set was i ≤ inc set now i
+  pub kept : (c : ℕ) → c ≤ inc set was i → base set now i c ≡ base set was i c
+
+abbrev pub BasesStayLaw : Type 0
+BasesStayLaw = (set : Setting) (h es : List Event) (i : ℕ) → 0 < set.parts → IsHistory set (after h es) → KeepsBases set h (after h es) i

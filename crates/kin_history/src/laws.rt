@@ -1,8 +1,8 @@
 //! Laws of histories, each the contract of a function that does nothing. They hold for every list of events in range, over
 //! any feeds and one partition or more.
 
-ghost use Rattle.kin_history.specs.Laws.{LineLaw, BaseLaw, AgreedLaw, AckLaw, WholeLaw, KeptLaw, LastingLaw, CutBackLaw, LossLaw};
-ghost use Rattle.kin_history.specs.CutLaws.{VectorLaw, KeepLaw, LaterLaw, SealedLaw};
+ghost use Rattle.kin_history.specs.Laws.{LineLaw, BaseLaw, AgreedLaw, AckLaw, WholeLaw, KeptLaw, LastingLaw, CutBackLaw, LossLaw, BasesStayLaw};
+ghost use Rattle.kin_history.specs.CutLaws.{VectorLaw, KeepLaw, LaterLaw, SealedLaw, NeverWithinLaw};
 ghost use Rattle.kin_history.specs.OrderLaws.{OfLinesLaw, SettledLaw};
 ghost use Rattle.kin_history.specs.MiningLaws.{MiningLaw, DrainLaw, DrainedLaw};
 ghost use Rattle.kin_history.specs.RefusalLaws.{RefusedLaw};
@@ -23,6 +23,7 @@ pub fn restart_laws()
     ensures bases { BaseLaw }
     ensures cut_back { CutBackLaw }
     ensures lost { LossLaw }
+    ensures bases_stay { BasesStayLaw }
 {}
 
 /// The vectors of the cuts: they never fall, and neither they nor what lies within them ever change. Nothing past the seal
@@ -32,6 +33,7 @@ pub fn vector_laws()
     ensures kept { KeepLaw }
     ensures kept_later { LaterLaw }
     ensures sealed { SealedLaw }
+    ensures never_within { NeverWithinLaw }
 {}
 
 /// The agreed order of the cut epochs has exactly the records of the surviving transactions within the vectors, each once,

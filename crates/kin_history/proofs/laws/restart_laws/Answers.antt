@@ -1,6 +1,6 @@
-use Rattle.kin_history.specs.Laws.{LineLaw, BaseLaw, CutBackLaw, LossLaw}
+use Rattle.kin_history.specs.Laws.{LineLaw, BaseLaw, CutBackLaw, LossLaw, BasesStayLaw}
 use Rattle.kin_history.proofs.Sound.{sound}
-use Rattle.kin_history.proofs.Lasts.{cut-back, loss}
+use Rattle.kin_history.proofs.Lasts.{cut-back, loss, keeps-bases-later}
 use Rattle.kin_history.proofs.laws.restart_laws.Goals as goal
 
 lines : LineLaw
@@ -17,5 +17,8 @@ cut_back set h j some legal accepted = cut-back set h j some legal accepted
 lost : LossLaw
 lost set h e i s some legal was gone = loss set h e i s some legal was gone
 
+bases_stay : BasesStayLaw
+bases_stay set h es i some legal = keeps-bases-later set h es i some legal
+
 pub returns : goal.returns
-returns c = record { lines = lines; bases = bases; cut_back = cut_back; lost = lost }
+returns c = record { lines = lines; bases = bases; cut_back = cut_back; lost = lost; bases_stay = bases_stay }
