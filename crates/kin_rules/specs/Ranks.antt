@@ -6,9 +6,9 @@ use Rattle.kin_ids.specs.Users.{has_user}
 use Rattle.kin_ids.specs.Graph.{Graph}
 use Rattle.kin_rules.specs.Counts.{out_count, followers}
 
--- what y, at a rank, gives each user whom it follows
+-- what y, at a rank of this value, gives each user whom it follows
 abbrev pub share : Graph → User → ℕ → ℕ
-share g y rank = (1000000 + rank / 2) / out_count g y
+share g y value = (1000000 + value / 2) / out_count g y
 
 -- the rank of x in a layer: the shares of its followers one layer lower, at most 10^15
 abbrev pub rank_at : Graph → ℕ → User → ℕ

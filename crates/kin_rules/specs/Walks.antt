@@ -55,8 +55,8 @@ abbrev pub Under : Option ℕ → Option ℕ → Type 0
 Under o None = Unit {0}
 Under o (Some n) = AtMost o n
 
--- What is asked of a rule: whether a kind is used doesn't depend on the cost; a greater cost leads to none that is less;
--- and each edge adds at least 1, and at most so much.
+-- What is asked of a rule: whether it uses a kind doesn't depend on the cost; a greater cost leads to none that is less;
+-- and each edge adds at least 1 and at most `most`, which is at most 3.
 pub record IsRule (along : EdgeKind → ℕ → Option ℕ) (most : ℕ) : Type 0 where
   pub by_kind : (k : EdgeKind) (v w : ℕ) → is_some (along k v) ≡ is_some (along k w)
   pub monotone : (k : EdgeKind) (v w : ℕ) → v ≤ w → Under (along k v) (along k w)
