@@ -21,3 +21,6 @@ pub use options::{OptionWords, RuleSet};
 pub use parting::{part_of_tag, part_of_user};
 pub use stamps::{End, Place, Stamp};
 pub use tags::Tag;
+
+#[cfg(test)]
+mod tests;
