@@ -1,3 +1,6 @@
 mod Keyed
 pub mod Pieces
 pub mod Cuts
+pub mod Times
+pub mod Taking
+pub mod Forgetting

@@ -1,3 +1,4 @@
 pub mod Early
 pub mod Chains
 pub mod Takes
+pub mod ChainOf
