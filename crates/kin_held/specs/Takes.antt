@@ -1,7 +1,7 @@
 -- What taking a piece answers, and what it leaves.
-use Rattle.std.specs.Prelude.{ℕ, ◌≡◌, ◌≢◌, ◌<◌, ◌⊎◌, ◌||◌, nat_le, Bool, true, false, List, [], ◌∷◌, ◌++◌, IsPermutation, slice_set}
+use Rattle.std.specs.Prelude.{ℕ, ◌≡◌, ◌≢◌, ◌<◌, ◌⊎◌, ◌||◌, ◌==◌, nat_le, nat_lt, if◌then◌else◌, Bool, true, false, List, [], ◌∷◌, ◌++◌, IsPermutation, slice_set}
 use Rattle.kin_ids.specs.declared.ops.Piece.{Piece}
-use Rattle.kin_ids.specs.Lines.{IsEnd, stamps_of}
+use Rattle.kin_ids.specs.Lines.{IsEnd, end_of, stamps_of, upto}
 use Rattle.kin_held.specs.Early.{begins}
 use Rattle.kin_held.specs.Chains.{ChainView, IsRun, chain_at, pieces_upto, pieces_past}
 use Rattle.kin_held.specs.declared.answers.Taken.{Taken}
@@ -46,6 +46,10 @@ entered old p = record { inc = p.stamp.inc.0; floor = old.floor; top = p.base; h
 abbrev pub IsPlace : ChainView → ℕ → Type 0
 IsPlace c at = IsEnd c.floor (stamps_of c.held) at
 
+-- the same as a test: the held pieces up to the position lead to it
+abbrev pub is_place : ChainView → ℕ → Bool
+is_place c at = end_of c.floor (upto at (stamps_of c.held)) == at
+
 -- a piece of the kept incarnation, or one of a later incarnation that begins at a place of the chain
 abbrev pub Enters : ChainView → Piece → Taken → ChainView → Type 0
 Enters old p taken new = ((p.stamp.inc.0 ≡ old.inc) × Places old p taken new)
@@ -59,6 +63,17 @@ Takes old p (Adrift b f t) new =
 Takes old p Repeat new = (p.stamp.inc.0 ≡ old.inc) × Places old p Repeat new
 Takes old p (Early at) new = Enters old p (Early at) new
 Takes old p (Held at) new = Enters old p (Held at) new
+
+-- The answer by the cases in their order: an incarnation that is over; a later one that begins at no place of the chain; a piece that is
+-- known; one that begins elsewhere than at the top; one that joins. `top` is the top afterwards.
+abbrev pub placed_of : ChainView → Piece → ℕ → Taken
+placed_of c p top = if is_known c p then Repeat else if p.stamp.from == c.top then Held top else Early c.top
+
+abbrev pub taken_of : ChainView → Piece → ℕ → Taken
+taken_of c p top =
+    if nat_lt p.stamp.inc.0 c.inc then Stale (record { 0 = c.inc })
+    else if nat_lt c.inc p.stamp.inc.0 then (if is_place c p.base then placed_of (entered c p) p top else Adrift p.base c.floor c.top)
+    else placed_of c p top
 
 -- the same at the chain of the piece's node, where the other chains stay
 abbrev pub TakesAt : List ChainView → Piece → Taken → List ChainView → Type 0

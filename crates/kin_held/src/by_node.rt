@@ -1,6 +1,6 @@
 //! One partition's chains, one for each node.
 
-ghost use Rattle.std.specs.Prelude.{◌≡◌, ◌<◌, IfOk, OnErr, length, slice_set, replicate};
+ghost use Rattle.std.specs.Prelude.{◌≡◌, ◌<◌, ◌≤◌, IfOk, OnErr, length, take, drop, slice_set, replicate};
 ghost use Rattle.kin_ids.specs.Operations.{IsWellFormed};
 
 use crate::answers::Taken;
@@ -25,8 +25,8 @@ impl Model for Held {
 }
 
 impl Held {
-    ghost use Rattle.kin_held.specs.Chains.{IsChain, chain_at, no_chain};
-    ghost use Rattle.kin_held.specs.Takes.{TakesAt, IsPlace, chain_past};
+    ghost use Rattle.kin_held.specs.Chains.{IsChain, chain_at, no_chain, pieces_upto, pieces_past};
+    ghost use Rattle.kin_held.specs.Takes.{TakesAt, IsPlace, taken_of, chain_past};
 
     /// Empty chains of this many nodes.
     pub fn new(alloc: Global, nodes: u16) -> Result<Held, Memory>
@@ -44,6 +44,8 @@ impl Held {
     pub fn take(&mut self, piece: Piece) -> Result<Taken, Memory>
         requires formed { IsWellFormed piece }
         requires node { piece.stamp.ingest.0 < length self.old }
+        ensures answer { IfOk result (λ taken. taken ≡ taken_of (chain_at self.old piece.stamp.ingest.0) piece
+            (chain_at self.new piece.stamp.ingest.0).top) }
         ensures taken { IfOk result (λ taken. TakesAt self.old piece taken self.new) }
         ensures err { OnErr result (self.new ≡ self.old) }
         ensures chain { IsChain (chain_at self.new piece.stamp.ingest.0) }
@@ -83,6 +85,16 @@ impl Held {
         ensures chain { IsChain (chain_at self.now i.0) }
     {
         self.chains[usize::from(i.0)].held()
+    }
+
+    /// How many pieces of the chain of node `i` end at or before the position, by binary search.
+    pub fn count_upto(&self, i: IngestId, at: u64) -> usize
+        requires { i.0 < length self.now }
+        ensures within { result ≤ length (chain_at self.now i.0).held }
+        ensures front { take result (chain_at self.now i.0).held ≡ pieces_upto at (chain_at self.now i.0).held }
+        ensures rest { drop result (chain_at self.now i.0).held ≡ pieces_past at (chain_at self.now i.0).held }
+    {
+        self.chains[usize::from(i.0)].count_upto(at)
     }
 
     /// Lets go of the pieces of node `i` up to a place of its chain, which is its floor then. It costs a search by halves, and

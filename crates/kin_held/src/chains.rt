@@ -1,6 +1,6 @@
 //! One node's chain.
 
-ghost use Rattle.std.specs.Prelude.{◌≡◌, ◌+◌, ◌≤◌, ◌<◌, ◌++◌, ◌∷◌, List, All, IfOk, OnErr, length, vec_len, vec_capacity};
+ghost use Rattle.std.specs.Prelude.{◌≡◌, ◌+◌, ◌≤◌, ◌<◌, ◌++◌, ◌∷◌, List, All, IfOk, OnErr, length, take, drop, vec_len, vec_capacity};
 ghost use Rattle.kin_ids.specs.declared.ops.Piece.{Piece};
 ghost use Rattle.kin_ids.specs.Operations.{IsWellFormed};
 ghost use Rattle.kin_held.specs.Early.{IsAscending};
@@ -34,8 +34,8 @@ impl Model for Chain {
 }
 
 impl Chain {
-    ghost use Rattle.kin_held.specs.Chains.{IsChain, no_chain};
-    ghost use Rattle.kin_held.specs.Takes.{Takes, Places, IsPlace, chain_past};
+    ghost use Rattle.kin_held.specs.Chains.{IsChain, no_chain, pieces_upto, pieces_past};
+    ghost use Rattle.kin_held.specs.Takes.{Takes, Places, IsPlace, taken_of, chain_past};
 
     /// A chain of incarnation 0 from position 0 on. It takes no memory.
     pub fn new(alloc: Global) -> Chain
@@ -75,8 +75,17 @@ impl Chain {
         &self.held
     }
 
+    pub fn count_upto(&self, at: u64) -> usize
+        ensures within { result ≤ length self.now.held }
+        ensures front { take result self.now.held ≡ pieces_upto at self.now.held }
+        ensures rest { drop result self.now.held ≡ pieces_past at self.now.held }
+    {
+        upto_len(&self.held, at)
+    }
+
     pub fn take(&mut self, piece: Piece) -> Result<Taken, Memory>
         requires { IsWellFormed piece }
+        ensures answer { IfOk result (λ taken. taken ≡ taken_of self.old piece self.new.top) }
         ensures taken { IfOk result (λ taken. Takes self.old piece taken self.new) }
         ensures err { OnErr result (self.new ≡ self.old) }
         ensures chain { IsChain self.new }
@@ -95,7 +104,7 @@ impl Chain {
         ensures forgot { self.new ≡ chain_past self.old to }
         ensures chain { IsChain self.new }
     {
-        let count = upto_len(&self.held, to);
+        let count = self.count_upto(to);
         drop(self.held.drain(..count));
         self.floor = to;
     }

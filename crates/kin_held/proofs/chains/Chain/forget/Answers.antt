@@ -1,14 +1,8 @@
-use Rattle.std.proofs.Common.{◌≡◌, sym, subst, List, rules}
-use Rattle.std.specs.List.Sorted.{IsNonDecreasingBy}
-use Rattle.kin_ids.specs.declared.ops.Piece.{Piece}
+use Rattle.std.proofs.Common.{◌≡◌, sym, subst, rules}
 use Rattle.kin_held.specs.Chains.{ChainView, pieces_past}
 use Rattle.kin_held.specs.Takes.{IsPlace}
-use Rattle.kin_held.proofs.Pieces.{ends_grow}
 use Rattle.kin_held.proofs.Cuts.{IsRun-pieces_past}
 use Rattle.kin_held.proofs.chains.Chain.forget.Goals as goal
-
-pub upto_len-count-requires : goal.upto_len-count-requires
-upto_len-count-requires c = subst (λ (ps : List Piece). IsNonDecreasingBy (λ (p : Piece). p.stamp.to) ps) (sym c.deref.ensures.value) (ends_grow c.self.inside.floor c.self.inside.held.items c.self.invariant.run.0)
 
 pub invariant_of-self : goal.invariant_of-self
 invariant_of-self c =
