@@ -1,0 +1,2 @@
+pub mod FirstStory
+pub mod FirstReport

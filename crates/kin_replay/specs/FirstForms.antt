@@ -1,0 +1,8 @@
+-- What the reader of words hands out.
+use Rattle.std.specs.Prelude.{ℕ, List, Option, option_map}
+use denote.Ref.{Bor}
+use Rattle.kin_replay.specs.declared.words.Form.{Form}
+use Rattle.kin_replay.specs.FirstWords as words
+
+abbrev pub form_shown : Option Form → Option words.Form
+form_shown o = option_map (λ f. record { parts = f.parts; script = f.script.now; feed = f.feed.now }) o

@@ -1,0 +1,4 @@
+pub mod FirstRun
+pub mod FirstWords
+pub mod FirstForms
+pub mod FirstSchedule
