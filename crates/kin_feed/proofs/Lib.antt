@@ -1,0 +1,5 @@
+mod AllRows
+mod RowSteps
+mod BadCounts
+mod Fields
+mod ItemLists

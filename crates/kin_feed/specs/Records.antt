@@ -1,5 +1,5 @@
 -- The records of a feed.
-use Rattle.std.specs.Prelude.{ℕ, ◌==◌, ◌&&◌, nat_le, List, [], ◌∷◌, length, map, codes, Option, Some, None, option_map, if◌then◌else◌}
+use Rattle.std.specs.Prelude.{ℕ, ◌==◌, ◌&&◌, nat_le, Bool, true, false, List, [], ◌∷◌, length, map, codes, Option, Some, None, option_map, if◌then◌else◌}
 use Rattle.std.specs.Str.{bytes_eq}
 use Rattle.csv.specs.Reading.{records, default_config, strip_bom}
 use Rattle.kin_ids.specs.declared.ids.User.{User}
@@ -30,14 +30,18 @@ abbrev pub items_of : List (List ℕ) → Option (List Item)
 items_of [] = Some []
 items_of (field ∷ fields) = with_item (item_of field) (items_of fields)
 
--- an edge between two users who are not the same
-abbrev pub between_users : (User → User → Record) → Option User → Option User → Record
-between_users make (Some u) (Some v) = if u.0 == v.0 then record_kind.Bad else make u v
-between_users make _ _ = record_kind.Bad
+-- two users who are not the same
+abbrev pub unlike : Option User → Option User → Option (User × User)
+unlike (Some u) (Some v) = if u.0 == v.0 then None else Some (u, v)
+unlike _ _ = None
 
-abbrev pub edge_of : (User → User → Record) → List (List ℕ) → Record
-edge_of make (u ∷ v ∷ []) = between_users make (user_of u) (user_of v)
-edge_of make _ = record_kind.Bad
+abbrev pub pair_of : List (List ℕ) → Option (User × User)
+pair_of (u ∷ v ∷ []) = unlike (user_of u) (user_of v)
+pair_of _ = None
+
+abbrev pub edge_of : (User → User → Record) → Option (User × User) → Record
+edge_of make (Some p) = make p.0 p.1
+edge_of make None = record_kind.Bad
 
 -- a tweet has 1 to 16 items
 abbrev pub tweet_by : Option User → Option (List Item) → Record
@@ -48,15 +52,26 @@ abbrev pub tweet_of : List (List ℕ) → Record
 tweet_of [] = record_kind.Bad
 tweet_of (u ∷ items) = tweet_by (user_of u) (items_of items)
 
--- the record of a row: `f` and two users, `x` and two users, `t` and a user and items; anything else is Bad
-abbrev pub record_of : List (List ℕ) → Record
-record_of [] = record_kind.Bad
-record_of (kind ∷ fields) =
-    if bytes_eq kind (codes "f") then edge_of record_kind.Follow fields
-    else if bytes_eq kind (codes "x") then edge_of record_kind.Unfollow fields
+-- by the first field: `f` and two users, `x` and two users, `t` and a user and items; anything else is Bad
+abbrev pub record_by : List ℕ → List (List ℕ) → Record
+record_by kind fields =
+    if bytes_eq kind (codes "f") then edge_of record_kind.Follow (pair_of fields)
+    else if bytes_eq kind (codes "x") then edge_of record_kind.Unfollow (pair_of fields)
     else if bytes_eq kind (codes "t") then tweet_of fields
     else record_kind.Bad
+
+-- the record of a row
+abbrev pub record_of : List (List ℕ) → Record
+record_of [] = record_kind.Bad
+record_of (kind ∷ fields) = record_by kind fields
 
 -- the records of a feed: each row is one
 abbrev pub records_of : List ℕ → List Record
 records_of bytes = map record_of (rows_of bytes)
+
+-- whether a record is Bad
+abbrev pub is_bad : Record → Bool
+is_bad record_kind.Bad = true
+is_bad (record_kind.Follow u v) = false
+is_bad (record_kind.Unfollow u v) = false
+is_bad (record_kind.Tweet u items) = false

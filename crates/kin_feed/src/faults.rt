@@ -1,5 +1,8 @@
 //! Why a feed could not be read.
 
+ghost use Rattle.std.specs.Prelude.{◌≡◌};
+
+use kin_ids::Memory;
 use thiserror::Error;
 
 /// Why a feed could not be read.
@@ -9,4 +12,14 @@ pub enum FeedFault {
     TooManyRecords,
     #[error("out of memory")]
     Memory,
+}
+
+impl From<Memory> for FeedFault {
+    ghost use Rattle.kin_feed.specs.declared.faults.FeedFault.{FeedFault};
+
+    ghost from_gives = { λ _ e. e ≡ FeedFault.Memory };
+
+    fn from(_fault: Memory) -> FeedFault {
+        FeedFault::Memory
+    }
 }

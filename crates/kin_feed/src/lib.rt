@@ -2,5 +2,9 @@
 #![tactic(auto)]
 
 pub mod faults;
+pub mod feeds;
+mod parses;
+mod rows;
 
 pub use faults::FeedFault;
+pub use feeds::{Feed, read_feed};
