@@ -6,7 +6,8 @@ use Rattle.std.proofs.lemmas.List.{map-append, length-take, length-drop, drop-dr
 use Rattle.std.proofs.Math.Seq.{take-add}
 use Rattle.kin_ids.specs.Types.{Stamp, Record}
 use Rattle.kin_ids.specs.Lines.{IsLine, IsEnd, end_of, upto, past}
-use Rattle.kin_ids.specs.Order.{Entry, entries, between}
+use Rattle.kin_ids.specs.Order.{Entry, entries, between, folded}
+use Rattle.kin_ids.specs.Graph.{Graph, applied}
 use Rattle.kin_ids.specs.Records.{Counted, counted, joined, LineLaw}
 use Rattle.kin_ids.proofs.Lines.{line_grows, upto-line, upto-ends, upto-end, past-line, upto-past, end_of-append}
 
@@ -63,6 +64,23 @@ joined-is feed at (s ∷ ss) l =
     let some : at < s.to = l.1 in
     ap (λ (n : ℕ). between feed n s.to ++ joined feed ss) l.0 ∙ (ap (λ rs. between feed at s.to ++ rs) (joined-is feed s.to ss l.2)
     ∙ sym (between-split feed at s.to (end_of s.to ss) (omega arith) (line_grows s.to ss l.2)))
+
+-- the entries of stamps, one stamp after the other
+abbrev pub line_entries : ℕ → ℕ → List Record → List Stamp → List Entry
+line_entries e i feed [] = []
+line_entries e i feed (s ∷ ss) = entries e i s.from (between feed s.from s.to) ++ line_entries e i feed ss
+
+pub line_entries-are : (e i : ℕ) (feed : List Record) (at : ℕ) (ss : List Stamp) → IsLine at ss → line_entries e i feed ss ≡ entries e i at (between feed at (end_of at ss))
+line_entries-are e i feed at [] l = sym (ap (entries e i at) (between-none feed at))
+line_entries-are e i feed at (s ∷ ss) l =
+    let some : at < s.to = l.1 in
+    ap (λ (n : ℕ). entries e i n (between feed n s.to) ++ line_entries e i feed ss) l.0 ∙ (ap (λ xs. entries e i at (between feed at s.to) ++ xs) (line_entries-are e i feed s.to ss l.2)
+    ∙ sym (entries-split e i feed at s.to (end_of s.to ss) (omega arith) (line_grows s.to ss l.2)))
+
+-- records in two lots
+pub folded-append : (g : Graph) (xs ys : List Entry) → folded g (xs ++ ys) ≡ folded (folded g xs) ys
+folded-append g [] ys = refl
+folded-append g (x ∷ xs) ys = folded-append (applied x.place g x.content) xs ys
 
 pub past-end_of : (at g : ℕ) (ss : List Stamp) → IsLine at ss → IsEnd at ss g → end_of g (past g ss) ≡ end_of at ss
 past-end_of at g ss l e = ap (λ (n : ℕ). end_of n (past g ss)) (sym (upto-end at g ss l e)) ∙ (sym (end_of-append at (upto g ss) (past g ss)) ∙ ap (end_of at) (upto-past g ss))

@@ -9,4 +9,6 @@ pub mod Told
 pub mod Joins
 pub mod Orders
 pub mod Whole
+pub mod Halves
 pub mod Shares
+pub mod Runs

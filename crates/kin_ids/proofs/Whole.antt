@@ -133,7 +133,7 @@ module _ {X Y : Type 0} (q : X → Bool) (f : X → Y) (xs : List X) (x : X) whe
   pushed-other true n = refl
   pushed-other false n = ap (map f) (filter-append q xs (x ∷ []) ∙ rw n (append-nil (filter q xs)))
 
-any-map-filter : {X Y : Type 0} (p : Y → Bool) (f : X → Y) (q : X → Bool) (xs : List X) → list_any p (map f (filter q xs)) ≡ list_any (λ x. q x && p (f x)) xs
+pub any-map-filter : {X Y : Type 0} (p : Y → Bool) (f : X → Y) (q : X → Bool) (xs : List X) → list_any p (map f (filter q xs)) ≡ list_any (λ x. q x && p (f x)) xs
 any-map-filter p f q [] = refl
 any-map-filter p f q (x ∷ xs) = go (q x) (any-map-filter p f q xs)
   where

@@ -1,11 +1,11 @@
 -- What follows and unfollows leave of the edges of a graph.
-use Rattle.std.specs.Prelude.{◌≡◌, ◌&&◌, ◌||◌, Bool, true, false, List, [], ◌∷◌, Option, Some, None, if◌then◌else◌, map}
+use Rattle.std.specs.Prelude.{ℕ, ◌≡◌, ◌&&◌, ◌||◌, Bool, true, false, List, [], ◌∷◌, Option, Some, None, if◌then◌else◌, map}
 use Rattle.std.specs.List.{list_any, find}
 use Rattle.std.specs.Option.{unwrap_or, option_or, option_map}
 use Rattle.kin_ids.specs.Types.{User, Place, Record}
 use Rattle.kin_ids.specs.declared.ops.Record.TheVariants as record_kind
-use Rattle.kin_ids.specs.Users.{same_user, IsAscending}
-use Rattle.kin_ids.specs.Graph.{Graph, empty_graph, is_edge, is_mention, is_use}
+use Rattle.kin_ids.specs.Users.{same_user, same_tag, IsAscending}
+use Rattle.kin_ids.specs.Graph.{Graph, empty_graph, is_edge, is_mention, is_use, outs, ins, mentions_of, mentioners_of, uses_of, tag_users}
 use Rattle.kin_ids.specs.Order.{Entry, folded}
 
 -- whether the edge from u to v is present, whether it was ever added, and where it was first
@@ -72,3 +72,20 @@ LaterLaw = (g : Graph) (xs : List Entry) (u v : User) → IsSound g → IsToldOn
 -- where the records' places ascend so do the edges'
 abbrev pub AscendLaw : Type 0
 AscendLaw = (xs : List Entry) → IsAscending (map (λ x. x.place) xs) → IsAscending (map (λ e. e.added) (folded empty_graph xs).edges)
+
+-- the lists of halves, mentions, uses and users of tags have each user and each tag once
+pub record AreOnce (g : Graph) : Type 0 where
+  pub outs : (u : User) → IsOnce (λ x y. same_user x.other y.other) (outs g u)
+  pub ins : (u : User) → IsOnce (λ x y. same_user x.other y.other) (ins g u)
+  pub mentions : (u : User) → IsOnce same_user (mentions_of g u)
+  pub mentioners : (u : User) → IsOnce same_user (mentioners_of g u)
+  pub uses : (u : User) → IsOnce (λ x y. same_tag x.tag y.tag) (uses_of g u)
+  pub tag_users : (t : List ℕ) → IsOnce same_user (tag_users g t)
+
+abbrev pub ListsLaw : Type 0
+ListsLaw = (g : Graph) → IsSound g → AreOnce g
+
+-- halves ascend by the places of their edges
+abbrev pub HalvesLaw : Type 0
+HalvesLaw = (g : Graph) (u : User) → IsAscending (map (λ e. e.added) g.edges) →
+    IsAscending (map (λ h. h.added) (outs g u)) × IsAscending (map (λ h. h.added) (ins g u))

@@ -20,12 +20,14 @@ pub fn fair_laws()
 {}
 
 /// The last follow or unfollow of an edge decides whether it is present, and the first follow where it was added.
-/// Each edge, mention and first use stands once in a graph, and edges by ascending place.
+/// Each edge, mention and first use stands once in a graph and in the lists of its users, edges by ascending place.
 pub fn graph_laws()
     ensures edges { follows.EdgeLaw }
     ensures later { follows.LaterLaw }
     ensures sound { follows.SoundLaw }
     ensures ascend { follows.AscendLaw }
+    ensures lists { follows.ListsLaw }
+    ensures halves { follows.HalvesLaw }
 {}
 
 /// The agreed order has each record once, by ascending place. The transactions of a line have the records between its
