@@ -12,9 +12,9 @@ abbrev pub times : List Piece → Stamp → ℕ
 times [] s = 0
 times (p ∷ ps) s = (if same_stamp p.stamp s then 1 else 0) + times ps s
 
--- The chain of node i under incarnation c, whose base is `from` and whose stamps are `made`; `before` is the line up to that base, and
--- `at` the floor. The chain holds the line before the base, and then what arrived of the incarnation up to the first stamp that
--- didn't; it keeps the rest that arrived, each once.
+-- The chain of node i under incarnation c, whose base is `from` and whose stamps are `made`; `before` is the line up to that
+-- base, and `at` the floor. Past the floor the chain holds the line before the base, and then the incarnation's stamps up to
+-- the first that didn't arrive. It keeps the rest that arrived as early ones, each once.
 pub record IsChainOf (i c from at : ℕ) (arrived before made : List Stamp) (chain : ChainView) : Type 0 where
   pub floor : chain.floor ≡ at
   pub inc : chain.inc ≡ c
@@ -22,6 +22,6 @@ pub record IsChainOf (i c from at : ℕ) (arrived before made : List Stamp) (cha
   pub top : chain.top ≡ end_of from (front_in arrived made)
   pub early : (s : Stamp) → times chain.early s ≡ (if has arrived s && (is_of i c s && nat_le chain.top s.from) then 1 else 0)
 
--- what a delivery of a stamp of the kept incarnation answers, by what arrived before it and by the top after it
+-- what a delivery of a stamp of the kept incarnation answers, by what arrived before and by the top afterwards
 abbrev pub answer_of : List Stamp → Stamp → ℕ → Taken
 answer_of arrived s top = if has arrived s then Repeat else if nat_lt top s.to then Early top else Held top

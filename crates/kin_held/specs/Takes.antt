@@ -30,7 +30,7 @@ pub record IsJoined (old : ChainView) (p : Piece) (new : ChainView) : Type 0 whe
   pub held : new.held ≡ old.held ++ p ∷ joined
   pub joins : Joins p.stamp.to old.early joined new.early new.top
 
--- a piece of the chain's incarnation
+-- what a piece of the chain's incarnation answers and leaves
 abbrev pub Places : ChainView → Piece → Taken → ChainView → Type 0
 Places old p Repeat new = (is_known old p ≡ true) × (new ≡ old)
 Places old p (Early at) new = (is_known old p ≡ false) × (p.stamp.from ≢ old.top) × (at ≡ old.top) × IsKeptEarly old p new
@@ -55,7 +55,7 @@ abbrev pub Enters : ChainView → Piece → Taken → ChainView → Type 0
 Enters old p taken new = ((p.stamp.inc.0 ≡ old.inc) × Places old p taken new)
     ⊎ ((old.inc < p.stamp.inc.0) × IsPlace old p.base × Places (entered old p) p taken new)
 
--- Each answer with the case in which it comes, and what it leaves. One of the cases holds of every chain and piece, and no two do.
+-- Each answer with the case in which it comes, and what it leaves
 abbrev pub Takes : ChainView → Piece → Taken → ChainView → Type 0
 Takes old p (Stale c) new = (p.stamp.inc.0 < old.inc) × (c.0 ≡ old.inc) × (new ≡ old)
 Takes old p (Adrift b f t) new =
@@ -64,11 +64,12 @@ Takes old p Repeat new = (p.stamp.inc.0 ≡ old.inc) × Places old p Repeat new
 Takes old p (Early at) new = Enters old p (Early at) new
 Takes old p (Held at) new = Enters old p (Held at) new
 
--- The answer by the cases in their order: an incarnation that is over; a later one that begins at no place of the chain; a piece that is
--- known; one that begins elsewhere than at the top; one that joins. `top` is the top afterwards.
+-- the answer to a piece of the chain's incarnation, by the top afterwards
 abbrev pub placed_of : ChainView → Piece → ℕ → Taken
 placed_of c p top = if is_known c p then Repeat else if p.stamp.from == c.top then Held top else Early c.top
 
+-- The answer by the cases in their order: the piece's incarnation is over; it is a later one, which begins at no place of the
+-- chain; the piece is known; it begins elsewhere than at the top; it joins.
 abbrev pub taken_of : ChainView → Piece → ℕ → Taken
 taken_of c p top =
     if nat_lt p.stamp.inc.0 c.inc then Stale (record { 0 = c.inc })

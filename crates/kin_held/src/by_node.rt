@@ -39,14 +39,17 @@ impl Held {
         Ok(Held { chains })
     }
 
-    /// Takes a piece into its node's chain. It costs O(log n) in the early pieces of that chain for itself and for each piece
-    /// that joins with it; a later incarnation costs what it drops besides.
+    /// Takes a piece into its node's chain. It costs O(log n) in the early pieces of that chain, for
+    /// the piece and for each that joins with it; entering a later incarnation costs O(log n) in the
+    /// chain besides, and what it drops.
     pub fn take(&mut self, piece: Piece) -> Result<Taken, Memory>
         requires formed { IsWellFormed piece }
         requires node { piece.stamp.ingest.0 < length self.old }
-        ensures answer { IfOk result (λ taken. taken ≡ taken_of (chain_at self.old piece.stamp.ingest.0) piece
-            (chain_at self.new piece.stamp.ingest.0).top) }
+        // Which answer comes, and what each one says and leaves.
+        ensures answer { IfOk result (λ taken. taken ≡ taken_of
+            (chain_at self.old piece.stamp.ingest.0) piece (chain_at self.new piece.stamp.ingest.0).top) }
         ensures taken { IfOk result (λ taken. TakesAt self.old piece taken self.new) }
+
         ensures err { OnErr result (self.new ≡ self.old) }
         ensures chain { IsChain (chain_at self.new piece.stamp.ingest.0) }
     {
@@ -87,18 +90,20 @@ impl Held {
         self.chains[usize::from(i.0)].held()
     }
 
-    /// How many pieces of the chain of node `i` end at or before the position, by binary search.
+    /// How many pieces of the chain of node `i` end at or before the position. It costs O(log n).
     pub fn count_upto(&self, i: IngestId, at: u64) -> usize
         requires { i.0 < length self.now }
         ensures within { result ≤ length (chain_at self.now i.0).held }
-        ensures front { take result (chain_at self.now i.0).held ≡ pieces_upto at (chain_at self.now i.0).held }
-        ensures rest { drop result (chain_at self.now i.0).held ≡ pieces_past at (chain_at self.now i.0).held }
+        ensures front { take result (chain_at self.now i.0).held
+            ≡ pieces_upto at (chain_at self.now i.0).held }
+        ensures rest { drop result (chain_at self.now i.0).held
+            ≡ pieces_past at (chain_at self.now i.0).held }
     {
         self.chains[usize::from(i.0)].count_upto(at)
     }
 
-    /// Lets go of the pieces of node `i` up to a place of its chain, which is its floor then. It costs a search by halves, and
-    /// a move of the pieces that stay.
+    /// Lets go of the pieces of node `i` up to a place of its chain, which is its floor then. It costs
+    /// O(log n), what it drops, and a move of what stays.
     pub fn forget(&mut self, i: IngestId, to: u64)
         requires node { i.0 < length self.old }
         requires place { IsPlace (chain_at self.old i.0) to }

@@ -7,8 +7,8 @@ use std::alloc::Global;
 use std::collections::BTreeMap;
 use std::marker::Model;
 
-/// Early pieces in the order of where they begin; no two begin at one position. Adding, finding and taking out cost
-/// O(log n).
+/// Early pieces in the order of where they begin; no two begin at one position. Adding, finding and
+/// taking out cost O(log n).
 #[derive(Drop)]
 pub(crate) struct EarlyPieces {
     alloc: Global,

@@ -9,3 +9,6 @@ mod runs;
 
 pub use answers::Taken;
 pub use by_node::Held;
+
+#[cfg(test)]
+mod tests;

@@ -29,7 +29,8 @@ pub(crate) fn end_of(floor: u64, pieces: &[Piece]) -> u64
     }
 }
 
-/// How many pieces lead from the floor to the position, by binary search. None where it is neither the floor nor an end.
+/// How many pieces lead from the floor to the position, by binary search. None where it is neither
+/// the floor nor an end.
 pub(crate) fn len_to(floor: u64, pieces: &[Piece], at: u64) -> Option<usize>
     requires { IsLine floor (stamps_of pieces.now) }
     ensures place { OnSome result (IsEnd floor (stamps_of pieces.now) at) }

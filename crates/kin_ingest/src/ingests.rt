@@ -11,8 +11,8 @@ use kin_ids::{Inc, IngestId, Stamp};
 /// The most records that one stamp holds.
 const LARGEST_BATCH: u64 = 16;
 
-/// Node `id` reads a feed of `len` records. Its incarnation `inc` began at position `base`, and has stamped the records
-/// up to position `next`.
+/// Node `id` reads a feed of `len` records. Its incarnation `inc` began at position `base`, and has
+/// stamped the records up to position `next`. Its calls cost O(1), and take no memory.
 #[derive(Debug, PartialEq, Eq, Drop)]
 pub struct Ingest {
     pub id: IngestId,
@@ -26,7 +26,8 @@ pub struct Ingest {
 impl Ingest {
     /// A node at the start of its feed, up.
     pub fn new(id: IngestId, len: u64) -> Ingest
-        ensures start { result ≡ record { id = id; len = len; inc = record { 0 = 0 }; base = 0; next = 0; up = true } }
+        ensures start { result
+            ≡ record { id = id; len = len; inc = record { 0 = 0 }; base = 0; next = 0; up = true } }
         ensures standing { IsStanding result }
     {
         Ingest {
@@ -43,16 +44,18 @@ impl Ingest {
     pub fn stamp(&mut self, n: u64) -> Result<Stamp, StampRefused>
         // The causes, in the order in which they are looked at.
         ensures down { IsErrOf result StampRefused.Down ↔ (self.old.up ≡ false) }
-        ensures exhausted { IsErrOf result StampRefused.Exhausted ↔ (IsTrue self.old.up × (self.old.next ≡ self.old.len)) }
+        ensures exhausted { IsErrOf result StampRefused.Exhausted
+            ↔ (IsTrue self.old.up × (self.old.next ≡ self.old.len)) }
         ensures bad_batch { IsErrOf result StampRefused.BadBatch
             ↔ (IsTrue self.old.up × (self.old.next ≢ self.old.len) × ((n ≡ 0) ⊎ (LARGEST_BATCH < n))) }
         ensures err { OnErr result (self.new ≡ self.old) }
 
         // The stamp, and the node after it.
-        ensures stamp { IfOk result (λ s. s ≡ next_stamp self.old.len self.old.id.0 self.old.inc.0 self.old.next n) }
+        ensures stamp { IfOk result
+            (λ s. s ≡ next_stamp self.old.len self.old.id.0 self.old.inc.0 self.old.next n) }
         ensures moved { IfOk result (λ s. self.new ≡ record self.old { next = s.to }) }
 
-        // A node that stands in its feed stamps a transaction of it, at or past its base, and still stands.
+        // A node that stands in its feed stamps a transaction of it, at or past its base, and stands.
         ensures transaction { IsStanding self.old → IfOk result (IsTransaction self.old.len) }
         ensures after_base { IsStanding self.old → IfOk result (λ s. self.old.base ≤ s.from) }
         ensures standing { IsStanding self.old → IsStanding self.new }
@@ -90,7 +93,7 @@ impl Ingest {
         Ok(())
     }
 
-    /// Brings the node back under the next incarnation, which begins at `base` and goes on from there.
+    /// Brings the node back under the next incarnation, which begins at `base`.
     pub fn restart(&mut self, base: u64) -> Result<Inc, RestartRefused>
         requires { base ≤ self.old.len }
         ensures up { IsErrOf result RestartRefused.Up ↔ IsTrue self.old.up }
@@ -98,7 +101,8 @@ impl Ingest {
             ↔ ((self.old.up ≡ false) × (self.old.inc.0 ≡ u16.MAX)) }
         ensures err { OnErr result (self.new ≡ self.old) }
         ensures next { IfOk result (λ inc. inc.0 ≡ self.old.inc.0 + 1) }
-        ensures ok { IfOk result (λ inc. self.new ≡ record self.old { inc = inc; base = base; next = base; up = true }) }
+        ensures ok { IfOk result
+            (λ inc. self.new ≡ record self.old { inc = inc; base = base; next = base; up = true }) }
         ensures standing { OnOk result (IsStanding self.new) }
     {
         if self.up {
@@ -112,5 +116,18 @@ impl Ingest {
         self.next = base;
         self.up = true;
         Ok(self.inc)
+    }
+}
+
+#[cfg(test)]
+mod tests {
+    use super::*;
+
+    #[test]
+    fn a_batch_has_one_to_sixteen_records(rt: HostRuntime) {
+        let mut node = Ingest::new(IngestId(0), 3);
+        assert_eq!(rt; node.stamp(0), Err(StampRefused::BadBatch));
+        assert_eq!(rt; node.stamp(17), Err(StampRefused::BadBatch));
+        assert_eq!(rt; node, Ingest::new(IngestId(0), 3));
     }
 }
