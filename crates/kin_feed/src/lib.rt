@@ -8,3 +8,6 @@ mod rows;
 
 pub use faults::FeedFault;
 pub use feeds::{Feed, read_feed};
+
+#[cfg(test)]
+mod tests;

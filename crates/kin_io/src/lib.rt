@@ -17,3 +17,6 @@ pub use memory_sinks::MemSink;
 pub use outputs::StdSink;
 pub use shelves::Shelf;
 pub use sinks::{Sink, put_all};
+
+#[cfg(test)]
+mod tests;
