@@ -78,8 +78,9 @@ fn round(ends: &mut Vec<u64>, lists: &[StampList], live: &[usize], place: usize,
     requires more { All (λ node. place < length (list_at lists.now node)) live.now }
     ensures len { length ends.new.items ≡ length ends.old.items }
     // Whatever follows in turn: what is done is in the ends, and what is left to take in the result.
-    ensures ends { (rest : List Turn) (i : ℕ) → last_end (slice_index ends.new.items i) i (enough result rest)
-        ≡ last_end (slice_index ends.old.items i) i
+    ensures ends { (rest : List Turn) (i : ℕ) →
+        last_end (slice_index ends.new.items i) i (enough result rest) ≡
+        last_end (slice_index ends.old.items i) i
         (enough wanted (row (list_at lists.now) place live.now ++ rest)) }
 {
     let mut left = wanted;
