@@ -8,7 +8,7 @@ use Rattle.std.proofs.lemmas.List.Sums.{sum_by-append}
 use Rattle.std.proofs.Math.Seq.{take-add}
 use Rattle.kin_ids.specs.Order.{between}
 use Rattle.kin_ids.specs.declared.ops.Record.{Record}
-use Rattle.kin_feed.specs.Records.{is_bad}
+use Rattle.kin_ids.specs.Operations.{is_bad}
 use Rattle.kin_feed.specs.BadIndex.{bad_numbers}
 
 -- how many are Bad

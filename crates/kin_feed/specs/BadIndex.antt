@@ -1,7 +1,7 @@
 -- The numbers of the Bad records.
 use Rattle.std.specs.Prelude.{ℕ, ◌+◌, List, [], ◌∷◌, if◌then◌else◌}
 use Rattle.kin_ids.specs.declared.ops.Record.{Record}
-use Rattle.kin_feed.specs.Records.{is_bad}
+use Rattle.kin_ids.specs.Operations.{is_bad}
 
 -- those among records that follow position n, ascending
 abbrev pub bad_numbers : ℕ → List Record → List ℕ

@@ -1,5 +1,5 @@
 -- The records of a feed.
-use Rattle.std.specs.Prelude.{ℕ, ◌==◌, ◌&&◌, nat_le, Bool, true, false, List, [], ◌∷◌, length, map, codes, Option, Some, None, option_map, if◌then◌else◌}
+use Rattle.std.specs.Prelude.{ℕ, ◌==◌, ◌&&◌, nat_le, List, [], ◌∷◌, length, map, codes, Option, Some, None, option_map, if◌then◌else◌}
 use Rattle.std.specs.Str.{bytes_eq}
 use Rattle.csv.specs.Reading.{records, default_config, strip_bom}
 use Rattle.kin_ids.specs.declared.ids.User.{User}
@@ -68,10 +68,3 @@ record_of (kind ∷ fields) = record_by kind fields
 -- the records of a feed: each row is one
 abbrev pub records_of : List ℕ → List Record
 records_of bytes = map record_of (rows_of bytes)
-
--- whether a record is Bad
-abbrev pub is_bad : Record → Bool
-is_bad record_kind.Bad = true
-is_bad (record_kind.Follow u v) = false
-is_bad (record_kind.Unfollow u v) = false
-is_bad (record_kind.Tweet u items) = false

@@ -2,7 +2,8 @@
 
 ghost use Rattle.std.specs.Prelude.{◌≡◌, ◌<◌, ◌≤◌, ◌^◌, ◌++◌, [], ◌∷◌, ℕ, List, take, length, count_by, IfOk, OnOk, OnErr, IsErrOf};
 ghost use Rattle.kin_ids.specs.Order.{between};
-ghost use Rattle.kin_feed.specs.Records.{records_of, is_bad};
+ghost use Rattle.kin_ids.specs.Operations.{is_bad};
+ghost use Rattle.kin_feed.specs.Records.{records_of};
 ghost use Rattle.kin_feed.specs.BadIndex.{bad_numbers};
 
 use crate::faults::FeedFault;

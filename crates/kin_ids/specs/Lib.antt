@@ -10,5 +10,6 @@ pub mod Order
 pub mod Follows
 pub mod Records
 pub mod Operations
+pub mod Exits
 pub mod Parts
 pub mod PartLaws

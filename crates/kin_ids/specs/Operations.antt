@@ -1,5 +1,5 @@
 -- The operations of records, each with the partition to which it belongs.
-use Rattle.std.specs.Prelude.{ℕ, ◌+◌, ◌≡◌, ◌<◌, ◌≤◌, ◌==◌, List, [], ◌∷◌, ◌++◌, filter, length}
+use Rattle.std.specs.Prelude.{ℕ, ◌+◌, ◌≡◌, ◌<◌, ◌≤◌, ◌==◌, Bool, true, false, List, [], ◌∷◌, ◌++◌, filter, length}
 use Rattle.kin_ids.specs.Types.{User, Item, Record, Op, Numbered, Piece, Stamp}
 use Rattle.kin_ids.specs.declared.ops.Item.TheVariants as item
 use Rattle.kin_ids.specs.declared.ops.Record.TheVariants as record_kind
@@ -21,6 +21,11 @@ record_ops (record_kind.Follow u v) = op.AddOut u v ∷ op.AddIn v u ∷ []
 record_ops (record_kind.Unfollow u v) = op.DropOut u v ∷ op.DropIn v u ∷ []
 record_ops (record_kind.Tweet u items) = items_ops u items
 record_ops record_kind.Bad = []
+
+-- whether a record is Bad
+abbrev pub is_bad : Record → Bool
+is_bad record_kind.Bad = true
+is_bad _ = false
 
 -- the partition to which an operation belongs
 abbrev pub op_part : ℕ → Op → ℕ

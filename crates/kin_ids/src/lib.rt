@@ -10,6 +10,7 @@ pub mod ops;
 pub mod options;
 pub mod parting;
 pub mod stamps;
+pub mod statuses;
 pub mod tags;
 
 pub use decimals::read_decimal;
@@ -20,6 +21,7 @@ pub use ops::{Half, Item, Name, Numbered, Op, Piece, Record, Use};
 pub use options::{OptionWords, RuleSet};
 pub use parting::{part_of_tag, part_of_user};
 pub use stamps::{End, Place, Stamp};
+pub use statuses::Status;
 pub use tags::Tag;
 
 #[cfg(test)]

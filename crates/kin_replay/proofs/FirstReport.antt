@@ -8,6 +8,7 @@ use Rattle.std.proofs.lemmas.List.Recursion.{is_count_by}
 use Rattle.kin_ids.specs.declared.stamps.Stamp.{Stamp}
 use Rattle.kin_ids.specs.declared.ops.Record.{Record}
 use Rattle.kin_ids.specs.Graph.{Graph, empty_graph}
+use Rattle.kin_ids.specs.Operations.{is_bad}
 use Rattle.kin_ids.specs.Order.{Entry, entries, of_epoch, snapshot, between, folded}
 use Rattle.kin_script.specs.declared.events.Event.{Event}
 use Rattle.kin_script.specs.declared.events.Event.TheVariants as event
@@ -18,7 +19,7 @@ use Rattle.kin_history.specs.Vectors.{vector}
 use Rattle.kin_history.specs.Drain.{drain}
 use Rattle.kin_report.specs.RowWords.{stamp, deliver, raise, cut, commit, mine, lines_from}
 use Rattle.kin_report.specs.RowWords as words
-use Rattle.kin_report.specs.Block.{is_bad, inc_at, block, epoch_line, end_word, top_lines, rule_lines}
+use Rattle.kin_report.specs.Block.{inc_at, block, epoch_line, end_word, top_lines, rule_lines}
 use Rattle.kin_report.specs.Text.{line_of}
 use Rattle.kin_rules.specs.Counts.{in_count}
 use Rattle.kin_report.specs.Report.{Ran, events_of, scheduled, drained, whole_run, printed, block_after, report}

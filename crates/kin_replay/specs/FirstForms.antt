@@ -4,5 +4,8 @@ use denote.Ref.{Bor}
 use Rattle.kin_replay.specs.declared.words.Form.{Form}
 use Rattle.kin_replay.specs.FirstWords as words
 
+abbrev pub shown : Form → words.Form
+shown f = record { parts = f.parts; script = f.script.now; feed = f.feed.now }
+
 abbrev pub form_shown : Option Form → Option words.Form
-form_shown o = option_map (λ f. record { parts = f.parts; script = f.script.now; feed = f.feed.now }) o
+form_shown o = option_map shown o

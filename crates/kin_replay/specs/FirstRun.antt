@@ -9,10 +9,11 @@ use Rattle.kin_script.specs.declared.events.Event.TheVariants as event
 use Rattle.kin_script.specs.declared.events.Line.{Line}
 use Rattle.kin_history.specs.Setting.{Setting}
 use Rattle.kin_ids.specs.Graph.{Graph, empty_graph}
+use Rattle.kin_ids.specs.Operations.{is_bad}
 use Rattle.kin_ids.specs.Order.{entries, folded}
 use Rattle.kin_rules.specs.Counts.{in_count}
 use Rattle.kin_report.specs.Text.{line_of}
-use Rattle.kin_report.specs.Block.{is_bad, top_lines}
+use Rattle.kin_report.specs.Block.{top_lines}
 use Rattle.kin_report.specs.Report.{report, whole_run}
 use Rattle.kin_report.specs.RowWords.{no_rules, stamp, deliver, raise, cut, lines_from}
 use Rattle.kin_report.specs.RowWords as words

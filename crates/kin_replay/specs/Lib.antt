@@ -2,3 +2,5 @@ pub mod FirstRun
 pub mod FirstWords
 pub mod FirstForms
 pub mod FirstSchedule
+pub mod FirstEnds
+pub mod Refusals

@@ -5,9 +5,9 @@ use Rattle.std.specs.Fmt.{decimal}
 use Rattle.kin_ids.specs.declared.ids.User.{User}
 use Rattle.kin_ids.specs.declared.stamps.Stamp.{Stamp}
 use Rattle.kin_ids.specs.declared.ops.Record.{Record}
-use Rattle.kin_ids.specs.declared.ops.Record.TheVariants as content
 use Rattle.kin_ids.specs.declared.options.OptionWords.{OptionWords}
 use Rattle.kin_ids.specs.Graph.{Graph, vertices, tags_in, said}
+use Rattle.kin_ids.specs.Operations.{is_bad}
 use Rattle.kin_ids.specs.Order.{Entry, of_epoch, snapshot}
 use Rattle.kin_rules.specs.declared.numbers.UserNumber.{UserNumber}
 use Rattle.kin_rules.specs.declared.numbers.TagNumber.{TagNumber}
@@ -31,10 +31,6 @@ end_word line at = if at == 0 then codes "-" else decimal (inc_at line at) ++ co
 abbrev pub end_words : (ℕ → List Stamp) → (ℕ → ℕ) → List ℕ → List (List ℕ)
 end_words lines vector [] = []
 end_words lines vector (i ∷ is) = end_word (lines i) (vector i) ∷ end_words lines vector is
-
-abbrev pub is_bad : Record → Bool
-is_bad content.Bad = true
-is_bad _ = false
 
 -- `epoch K E.. records R bad B`, over the records that are new in the epoch
 abbrev pub epoch_line : (ℕ → List Stamp) → (ℕ → ℕ) → ℕ → ℕ → List Entry → List ℕ

@@ -6,6 +6,8 @@ pub mod Kept
 pub mod Support
 pub mod Nets
 pub mod Orders
+pub mod Cuts
+pub mod Entries
 pub mod Top
 pub mod Instances
 pub mod Counts

@@ -69,7 +69,7 @@ edges-seen g w u =
     (rw (map-map (λ (h : Half). h.other) half_out) (has-ends (λ (e : Edge). e.start) (λ (e : Edge). e.end) w u g.edges), has-ends (λ (m : Mention). m.start) (λ (m : Mention). m.end) w u g.mentions)
 
 -- the vertices are the users in edges, mentions and uses
-has-vertices : (g : Graph) (x : User) → has_user (vertices g) x
+pub has-vertices : (g : Graph) (x : User) → has_user (vertices g) x
     ≡ (((has_user (map (λ e. e.start) g.edges) x || has_user (map (λ e. e.end) g.edges) x)
     || (has_user (map (λ m. m.start) g.mentions) x || has_user (map (λ m. m.end) g.mentions) x)) || has_user (map (λ t. t.user) g.uses) x)
 has-vertices g x = rw has-distinct (simp list_any-append)

@@ -4,7 +4,7 @@ use Rattle.std.specs.Ordering.{ordering_reverse, is_lt}
 use Rattle.std.specs.declared.cmp.Ordering.{Ordering}
 use Rattle.std.specs.declared.cmp.Ordering.TheVariants.{Less, Equal, Greater}
 use Rattle.std.specs.Cmp.{IsTotalOrder}
-use Rattle.std.specs.List.{sum_by}
+use Rattle.std.specs.List.{sum_by, count_by}
 use Rattle.std.specs.List.Sorted.{IsPermutation}
 use Rattle.std.proofs.lemmas.Cmp.{tied_itself}
 use Rattle.std.proofs.lemmas.List.Sums.{sum_by-cons}
@@ -34,42 +34,46 @@ after {order = order} o w z y h (inl e) = here (order y w) refl
     here Equal q = refl
     here Greater q = refl
 
-abbrev early : {A : Type 0} → (A → A → Ordering) → A → A → ℕ
-early order w x = cond (is_lt (order x w)) 1 0
+pub count-cons : {A : Type 0} (p : A → Bool) (x : A) (xs : List A) → count_by p (x ∷ xs) ≡ cond (p x) 1 0 + count_by p xs
+count-cons p x xs = sum_by-cons (λ y. cond (p y) 1 0) x xs
+
+abbrev early : {A : Type 0} → (A → A → Ordering) → A → A → Bool
+early order w x = is_lt (order x w)
 
 -- in a list in order that begins with no entry before w, none is before w
-none-early : {A : Type 0} {order : A → A → Ordering} → IsExact order → (w z : A) (zs : List A) → is_lt (order z w) ≡ false → IsInOrder order (z ∷ zs) → sum_by (early order w) (z ∷ zs) ≡ 0
-none-early {order = order} o w z [] h up = sum_by-cons (early order w) z [] ∙ rw h refl
-none-early {order = order} o w z (y ∷ ys) h up = sum_by-cons (early order w) z (y ∷ ys) ∙ rw (h, none-early o w y ys (after o w z y h up.0) up.1) refl
+none-early : {A : Type 0} {order : A → A → Ordering} → IsExact order → (w z : A) (zs : List A) → is_lt (order z w) ≡ false → IsInOrder order (z ∷ zs) → count_by (early order w) (z ∷ zs) ≡ 0
+none-early {order = order} o w z [] h up = count-cons (early order w) z [] ∙ rw h refl
+none-early {order = order} o w z (y ∷ ys) h up = count-cons (early order w) z (y ∷ ys) ∙ rw (h, none-early o w y ys (after o w z y h up.0) up.1) refl
 
--- lists that every sum takes alike
-abbrev AreSums : {A : Type 0} → List A → List A → Type 0
-AreSums {A} xs ys = (f : A → ℕ) → sum_by f xs ≡ sum_by f ys
+-- lists of which as many entries pass each test
+abbrev pub AreAlike : {A : Type 0} → List A → List A → Type 0
+AreAlike {A} xs ys = (p : A → Bool) → count_by p xs ≡ count_by p ys
 
 -- an entry before all of another list isn't in it
-apart : {A : Type 0} {order : A → A → Ordering} → IsExact order → (x y : A) (xs ys : List A) → order x y ≡ Less → IsInOrder order (y ∷ ys) → AreSums (x ∷ xs) (y ∷ ys) → ⊥
-apart {order = order} o x y xs ys less up sums =
-    let none : sum_by (early order y) (y ∷ ys) ≡ 0 = none-early o y y ys (rw (tied_itself o.total y) refl) up in
-    let one : sum_by (early order y) (x ∷ xs) ≡ 1 + sum_by (early order y) xs = sum_by-cons (early order y) x xs ∙ rw less refl in
-    let both : sum_by (early order y) (x ∷ xs) ≡ sum_by (early order y) (y ∷ ys) = sums (early order y) in
+apart : {A : Type 0} {order : A → A → Ordering} → IsExact order → (x y : A) (xs ys : List A) → order x y ≡ Less → IsInOrder order (y ∷ ys) → AreAlike (x ∷ xs) (y ∷ ys) → ⊥
+apart {order = order} o x y xs ys less up alike =
+    let none : count_by (early order y) (y ∷ ys) ≡ 0 = none-early o y y ys (rw (tied_itself o.total y) refl) up in
+    let one : count_by (early order y) (x ∷ xs) ≡ 1 + count_by (early order y) xs = count-cons (early order y) x xs ∙ rw less refl in
+    let both : count_by (early order y) (x ∷ xs) ≡ count_by (early order y) (y ∷ ys) = alike (early order y) in
     omega (arith, none, one, both)
 
--- two lists in order with the same sums are one
-one-order : {A : Type 0} {order : A → A → Ordering} → IsExact order → (xs ys : List A) → IsInOrder order xs → IsInOrder order ys → AreSums xs ys → xs ≡ ys
-one-order o [] [] up down sums = refl
-one-order o [] (y ∷ ys) up down sums = absurd (let e = sums (λ _. 1) in let k = sum_by-cons (λ _. 1) y ys in omega (arith, e, k))
-one-order o (x ∷ xs) [] up down sums = absurd (let e = sums (λ _. 1) in let k = sum_by-cons (λ _. 1) x xs in omega (arith, e, k))
-one-order {A = A} {order = order} o (x ∷ xs) (y ∷ ys) up down sums = here (three_ways o x y) (λ k. one-order o xs ys up.1 down.1 k)
+-- two lists in order that are alike are one
+one-order : {A : Type 0} {order : A → A → Ordering} → IsExact order → (xs ys : List A) → IsInOrder order xs → IsInOrder order ys → AreAlike xs ys → xs ≡ ys
+one-order o [] [] up down alike = refl
+one-order o [] (y ∷ ys) up down alike = absurd (let e = alike (λ _. true) in let k = count-cons (λ _. true) y ys in omega (arith, e, k))
+one-order o (x ∷ xs) [] up down alike = absurd (let e = alike (λ _. true) in let k = count-cons (λ _. true) x xs in omega (arith, e, k))
+one-order {A = A} {order = order} o (x ∷ xs) (y ∷ ys) up down alike = here (three_ways o x y) (λ k. one-order o xs ys up.1 down.1 k)
   where
-    rest : x ≡ y → AreSums xs ys
-    rest e f =
-        let k : f x + sum_by f xs ≡ f y + sum_by f ys = sym (sum_by-cons f x xs) ∙ sums f ∙ sum_by-cons f y ys in
+    rest : x ≡ y → AreAlike xs ys
+    rest e p =
+        let k : cond (p x) 1 0 + count_by p xs ≡ cond (p y) 1 0 + count_by p ys = sym (count-cons p x xs) ∙ alike p ∙ count-cons p y ys in
+        let f : A → ℕ = λ z. cond (p z) 1 0 in
         let same : f x ≡ f y = ap f e in
         omega (arith, k, same)
 
-    here : (order x y ≡ Less) ⊎ ((x ≡ y) ⊎ (order y x ≡ Less)) → (AreSums xs ys → xs ≡ ys) → x ∷ xs ≡ y ∷ ys
-    here (inl less) more = absurd (apart o x y xs ys less down sums)
-    here (inr (inr less)) more = absurd (apart o y x ys xs less up (λ f. sym (sums f)))
+    here : (order x y ≡ Less) ⊎ ((x ≡ y) ⊎ (order y x ≡ Less)) → (AreAlike xs ys → xs ≡ ys) → x ∷ xs ≡ y ∷ ys
+    here (inl less) more = absurd (apart o x y xs ys less down alike)
+    here (inr (inr less)) more = absurd (apart o y x ys xs less up (λ p. sym (alike p)))
     here (inr (inl e)) more = let tails = more (rest e) in cc
 
 pub placed-permutes : {A : Type 0} (order : A → A → Ordering) (x : A) (xs : List A) → IsPermutation (x ∷ xs) (placed order x xs)
@@ -119,6 +123,18 @@ in_order-ordered : {A : Type 0} {order : A → A → Ordering} → IsExact order
 in_order-ordered o [] = tt
 in_order-ordered {order = order} o (x ∷ xs) = placed-ordered o x (in_order order xs) (in_order-ordered o xs)
 
+-- as many entries pass each test in each order of a list
+alike-ordered : {A : Type 0} (order : A → A → Ordering) (xs ys : List A) → IsPermutation xs ys → AreAlike ys (in_order order xs)
+alike-ordered {A = A} order xs ys same p =
+    let f : A → ℕ = λ x. cond (p x) 1 0 in
+    sum_by-IsPermutation f xs ys same ∙ sym (sum_by-IsPermutation f xs (in_order order xs) (in_order-permutes order xs))
+
+-- lists that are alike are one in order
+pub alike-in-order : {A : Type 0} {order : A → A → Ordering} → IsExact order → (xs ys : List A) → AreAlike xs ys → in_order order xs ≡ in_order order ys
+alike-in-order {order = order} o xs ys alike =
+    one-order o (in_order order xs) (in_order order ys) (in_order-ordered o xs) (in_order-ordered o ys)
+    (λ p. sym (alike-ordered order xs xs (IsPermutation-refl xs) p) ∙ alike p ∙ alike-ordered order ys ys (IsPermutation-refl ys) p)
+
 pub is-ordering : {A : Type 0} {order : A → A → Ordering} → IsExact order → (xs : List A) → IsOrdering order xs (in_order order xs)
 is-ordering {A = A} {order = order} o xs = record {
   same = in_order-permutes order xs;
@@ -127,4 +143,4 @@ is-ordering {A = A} {order = order} o xs = record {
 }
   where
     only : (other : List A) → IsPermutation xs other → IsInOrder order other → other ≡ in_order order xs
-    only other p up = one-order o other (in_order order xs) up (in_order-ordered o xs) (λ f. sum_by-IsPermutation f xs other p ∙ sym (sum_by-IsPermutation f xs (in_order order xs) (in_order-permutes order xs)))
+    only other p up = one-order o other (in_order order xs) up (in_order-ordered o xs) (alike-ordered order xs other p)

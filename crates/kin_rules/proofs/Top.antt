@@ -19,7 +19,7 @@ both-tie Less s h = absurd cc
 both-tie Equal s h = (refl, h)
 both-tie Greater s h = absurd cc
 
-users-exact : IsExact user_order
+pub users-exact : IsExact user_order
 users-exact = record {
   total = then_total (on_total (λ (e : UserNumber). e.number) (back_total nat_cmp_total)) (on_total (λ (e : UserNumber). e.user.0) nat_cmp_total);
   exact = exact;
@@ -30,7 +30,7 @@ users-exact = record {
         let k = both-tie (nat_cmp y.number x.number) (user_cmp x.user y.user) h in
         ap₂ (λ (n : ℕ) (u : User). let e : UserNumber = record { user = u; number = n } in e) (sym (exact_unsigned y.number x.number k.0)) (same_user-true x.user y.user ((Equal-is (user_cmp x.user y.user)).1 k.1))
 
-tags-exact : IsExact tag_order
+pub tags-exact : IsExact tag_order
 tags-exact = record {
   total = then_total (on_total (λ (e : TagNumber). e.number) (back_total nat_cmp_total)) (on_total (λ (e : TagNumber). e.tag) nat_list_cmp_total);
   exact = exact;

@@ -1,10 +1,12 @@
 -- The entries with the greatest numbers.
-use Rattle.std.specs.Prelude.{◌≡◌, ◌⊎◌, ℕ, nat_lt, List, [], ◌∷◌, filter, take, if◌then◌else◌}
+use Rattle.std.specs.Prelude.{◌≡◌, ◌⊎◌, ℕ, nat_lt, List, [], ◌∷◌, filter, take, map, if◌then◌else◌}
 use Rattle.std.specs.Ordering.{nat_cmp, ordering_then, is_lt}
 use Rattle.std.specs.declared.cmp.Ordering.{Ordering}
 use Rattle.std.specs.declared.cmp.Ordering.TheVariants.{Less}
+use Rattle.std.specs.List.{IsDistinct}
 use Rattle.std.specs.List.Sorted.{IsPermutation}
-use Rattle.kin_ids.specs.Users.{user_cmp, tag_cmp}
+use Rattle.kin_ids.specs.declared.ids.User.{User}
+use Rattle.kin_ids.specs.Users.{user_cmp, tag_cmp, same_user, has_user}
 use Rattle.kin_rules.specs.declared.numbers.UserNumber.{UserNumber}
 use Rattle.kin_rules.specs.declared.numbers.TagNumber.{TagNumber}
 
@@ -61,3 +63,13 @@ UsersAreOrdered = (entries : List UserNumber) → IsOrdering user_order entries 
 
 abbrev pub TagsAreOrdered : Type 0
 TagsAreOrdered = (entries : List TagNumber) → IsOrdering tag_order entries (in_order tag_order entries)
+
+-- a list of users, each with its number
+abbrev pub numbered_users : (User → ℕ) → List User → List UserNumber
+numbered_users f us = map (λ u. record { user = u; number = f u }) us
+
+-- the top list is the same in whatever order users come, each once
+abbrev pub UsersInAnyOrder : Type 0
+UsersInAnyOrder =
+    (f : User → ℕ) (us vs : List User) (t : ℕ) → IsDistinct same_user us → IsDistinct same_user vs → ((u : User) → has_user us u ≡ has_user vs u)
+    → top_users (numbered_users f us) t ≡ top_users (numbered_users f vs) t

@@ -7,7 +7,7 @@ ghost use Rattle.kin_rules.specs.Kept.{RestIsLeast};
 ghost use Rattle.kin_rules.specs.Nets.{CloseAddsUp, CloseIsLeast, EdgesAreSeen, HopsAreLeast, HopsCountEdges, NetsAreWhole};
 ghost use Rattle.kin_rules.specs.Ranks.{FollowersFollow, RanksAreCapped};
 ghost use Rattle.kin_rules.specs.Support.{SupportIsLeast};
-ghost use Rattle.kin_rules.specs.Top.{TagsAreOrdered, UsersAreOrdered};
+ghost use Rattle.kin_rules.specs.Top.{TagsAreOrdered, UsersAreOrdered, UsersInAnyOrder};
 
 /// The least cost is that of all walks. Values at rest are the least costs, be they kept by walks or by edges.
 pub fn cost_laws()
@@ -39,8 +39,9 @@ pub fn exposure_laws()
     ensures all { ExposuresAddUp }
 {}
 
-/// Top lists are cut from the entries in order, and there is one such order.
+/// Top lists are cut from the entries in order, and there is one such order. It is the same in whatever order users come.
 pub fn top_laws()
     ensures users { UsersAreOrdered }
     ensures tags { TagsAreOrdered }
+    ensures any_order { UsersInAnyOrder }
 {}

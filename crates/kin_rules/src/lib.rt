@@ -5,6 +5,11 @@ pub mod kinds;
 pub mod laws;
 pub mod numbers;
 pub mod rows;
+pub mod tops;
 
 pub use kinds::EdgeKind;
 pub use numbers::{KCount, TagNumber, UserNumber};
+pub use tops::{top_tags, top_users};
+
+#[cfg(test)]
+mod tests;

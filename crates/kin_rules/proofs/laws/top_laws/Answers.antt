@@ -1,4 +1,5 @@
 use Rattle.kin_rules.proofs.Top.{users-ordered, tags-ordered}
+use Rattle.kin_rules.proofs.Entries.{any-order}
 use Rattle.kin_rules.proofs.laws.top_laws.Goals as goal
 
 pub returns-clause-users : goal.returns-clause-users
@@ -6,3 +7,6 @@ returns-clause-users c = users-ordered
 
 pub returns-clause-tags : goal.returns-clause-tags
 returns-clause-tags c = tags-ordered
+
+pub returns-clause-any_order : goal.returns-clause-any_order
+returns-clause-any_order c = any-order
