@@ -1,0 +1,59 @@
+-- What a partition keeps of a user, what an operation does to it, and how that is taken back.
+use Rattle.std.specs.Prelude.{ℕ, ◌+◌, ◌-◌, ◌==◌, ◌&&◌, not, Bool, true, false, List, [], length}
+use Rattle.kin_ids.specs.declared.ids.User.{User}
+use Rattle.kin_ids.specs.declared.stamps.Place.{Place}
+use Rattle.kin_ids.specs.declared.ops.Half.{Half}
+use Rattle.kin_ids.specs.declared.ops.Use.{Use}
+use Rattle.kin_ids.specs.declared.ops.Op.{Op}
+use Rattle.kin_ids.specs.declared.ops.Op.TheVariants as op
+use Rattle.kin_ids.specs.Parts.{with_half, without_half, with_member, with_first}
+use Rattle.kin_graph.specs.declared.changes.Change.{Change}
+use Rattle.kin_graph.specs.Lists.{taken_back}
+use Rattle.kin_graph.specs.Turns.{turned_back}
+
+-- A user's row: the follow halves out of it and into it, whom it mentions, who mentions it, its first uses of tags, and
+-- how many items mention it.
+pub record UserRow : Type 0 where
+  pub out : List Half
+  pub inn : List Half
+  pub mentions : List User
+  pub mentioners : List User
+  pub uses : List Use
+  pub said : ℕ
+
+abbrev pub no_row : UserRow
+no_row = record { out = []; inn = []; mentions = []; mentioners = []; uses = []; said = 0 }
+
+abbrev pub is_none : {X : Type 0} → List X → Bool
+is_none xs = length xs == 0
+
+-- nobody follows, mentions or uses here
+abbrev pub is_apart : UserRow → Bool
+is_apart r = ((is_none r.out && is_none r.inn) && (is_none r.mentions && is_none r.mentioners)) && is_none r.uses
+
+abbrev pub is_blank : UserRow → Bool
+is_blank r = is_apart r && r.said == 0
+
+-- what an operation at a place does to its user's row
+abbrev pub row_applied : Place → UserRow → Op → UserRow
+row_applied at r (op.AddOut u w) = record r { out = with_half w at r.out }
+row_applied at r (op.AddIn w u) = record r { inn = with_half u at r.inn }
+row_applied at r (op.DropOut u w) = record r { out = without_half w r.out }
+row_applied at r (op.DropIn w u) = record r { inn = without_half u r.inn }
+row_applied at r (op.MentionOut u w) = record r { mentions = with_member w r.mentions }
+row_applied at r (op.MentionIn w u) = record r { mentioners = with_member u r.mentioners }
+row_applied at r (op.Said w) = record r { said = r.said + 1 }
+row_applied at r (op.Use u t) = record r { uses = with_first t at r.uses }
+row_applied at r (op.TagUse t u) = r
+
+-- the row before an operation that changed it so
+abbrev pub row_undone : Op → Change → UserRow → UserRow
+row_undone (op.AddOut u w) c r = record r { out = turned_back w false c r.out }
+row_undone (op.AddIn w u) c r = record r { inn = turned_back u false c r.inn }
+row_undone (op.DropOut u w) c r = record r { out = turned_back w true c r.out }
+row_undone (op.DropIn w u) c r = record r { inn = turned_back u true c r.inn }
+row_undone (op.MentionOut u w) c r = record r { mentions = taken_back c r.mentions }
+row_undone (op.MentionIn w u) c r = record r { mentioners = taken_back c r.mentioners }
+row_undone (op.Said w) c r = record r { said = r.said - 1 }
+row_undone (op.Use u t) c r = record r { uses = taken_back c r.uses }
+row_undone (op.TagUse t u) c r = r
