@@ -1,3 +1,6 @@
 pub mod Lists
 pub mod Turns
 pub mod Rows
+pub mod State
+pub mod Changes
+pub mod Views

@@ -4,8 +4,16 @@
 mod changes;
 mod first_added;
 mod halves;
+pub mod part_graphs;
 mod rows;
 pub mod ticks;
+pub mod views;
 
+use kin_ids::ListOf;
 pub use kin_ids::{Half, Use};
+pub use part_graphs::PartGraph;
 pub use ticks::Steps;
+pub use views::View;
+
+/// Uses of tags.
+pub type Uses = ListOf<Use>;

@@ -1,0 +1,50 @@
+-- What operations do to a store's rows and tags, and how that is taken back.
+use Rattle.std.specs.Prelude.{◌≡◌, ℕ, List, [], ◌∷◌}
+use Rattle.kin_ids.specs.declared.ids.User.{User}
+use Rattle.kin_ids.specs.declared.stamps.Place.{Place}
+use Rattle.kin_ids.specs.declared.ops.Op.{Op}
+use Rattle.kin_ids.specs.declared.ops.Op.TheVariants as op
+use Rattle.kin_ids.specs.declared.ops.Numbered.{Numbered}
+use Rattle.kin_ids.specs.Parts.{with_member, changed, changed_tag}
+use Rattle.kin_graph.specs.declared.changes.Change.{Change}
+use Rattle.kin_graph.specs.Lists.{taken_back}
+use Rattle.kin_graph.specs.Rows.{UserRow, row_applied, row_undone}
+use Rattle.kin_graph.specs.State.{PartState, row_of, users_of}
+
+-- the row of each user, and the users of each tag
+pub record Kept : Type 0 where
+  pub row : User → UserRow
+  pub users : List ℕ → List User
+
+abbrev pub kept : PartState → Kept
+kept s = record { row = λ u. row_of s u; users = λ t. users_of s t }
+
+abbrev pub with_row : Kept → User → UserRow → Kept
+with_row k u r = record k { row = changed k.row u r }
+
+abbrev pub with_users : Kept → List ℕ → List User → Kept
+with_users k t us = record k { users = changed_tag k.users t us }
+
+-- what an operation at a place does
+abbrev pub done : Place → Kept → Op → Kept
+done at k (op.AddOut u w) = with_row k u (row_applied at (k.row u) (op.AddOut u w))
+done at k (op.AddIn w u) = with_row k w (row_applied at (k.row w) (op.AddIn w u))
+done at k (op.DropOut u w) = with_row k u (row_applied at (k.row u) (op.DropOut u w))
+done at k (op.DropIn w u) = with_row k w (row_applied at (k.row w) (op.DropIn w u))
+done at k (op.MentionOut u w) = with_row k u (row_applied at (k.row u) (op.MentionOut u w))
+done at k (op.MentionIn w u) = with_row k w (row_applied at (k.row w) (op.MentionIn w u))
+done at k (op.Said w) = with_row k w (row_applied at (k.row w) (op.Said w))
+done at k (op.Use u t) = with_row k u (row_applied at (k.row u) (op.Use u t))
+done at k (op.TagUse t u) = with_users k t (with_member u (k.users t))
+
+-- what was there before an operation that made this change
+abbrev pub undone : Op → Change → Kept → Kept
+undone (op.AddOut u w) c k = with_row k u (row_undone (op.AddOut u w) c (k.row u))
+undone (op.AddIn w u) c k = with_row k w (row_undone (op.AddIn w u) c (k.row w))
+undone (op.DropOut u w) c k = with_row k u (row_undone (op.DropOut u w) c (k.row u))
+undone (op.DropIn w u) c k = with_row k w (row_undone (op.DropIn w u) c (k.row w))
+undone (op.MentionOut u w) c k = with_row k u (row_undone (op.MentionOut u w) c (k.row u))
+undone (op.MentionIn w u) c k = with_row k w (row_undone (op.MentionIn w u) c (k.row w))
+undone (op.Said w) c k = with_row k w (row_undone (op.Said w) c (k.row w))
+undone (op.Use u t) c k = with_row k u (row_undone (op.Use u t) c (k.row u))
+undone (op.TagUse t u) c k = with_users k t (taken_back c (k.users t))

@@ -1,0 +1,44 @@
+-- The store of one partition, and what it hands out.
+use Rattle.std.specs.Prelude.{◌≡◌, ℕ, not, Bool, true, false, List, [], unwrap_or, Some}
+use Rattle.std.specs.List.Sorted.{IsStrictlySortedBy}
+use Rattle.std.specs.Map.{lookup, keys_of}
+use Rattle.kin_ids.specs.declared.ids.User.{User}
+use Rattle.kin_ids.specs.Users.{user_cmp, tag_cmp, same_user, same_tag}
+use Rattle.kin_ids.specs.Parting.{user_part, tag_part}
+use Rattle.kin_ids.specs.Parts.{PartView}
+use Rattle.kin_graph.specs.Rows.{UserRow, no_row, is_none, is_blank}
+
+-- A partition's number, how many partitions there are, the rows of its users, and the users of its tags.
+pub record PartState : Type 0 where
+  pub part : ℕ
+  pub parts : ℕ
+  pub rows : List (User × UserRow)
+  pub tags : List (List ℕ × List User)
+
+abbrev pub empty_part : ℕ → ℕ → PartState
+empty_part part parts = record { part = part; parts = parts; rows = []; tags = [] }
+
+abbrev pub row_of : PartState → User → UserRow
+row_of s u = unwrap_or (lookup (same_user u) s.rows) no_row
+
+abbrev pub users_of : PartState → List ℕ → List User
+users_of s t = unwrap_or (lookup (same_tag t) s.tags) []
+
+-- what the store hands out of each user and tag
+abbrev pub view_of : PartState → PartView
+view_of s = record {
+  out = λ u. (row_of s u).out;
+  inn = λ u. (row_of s u).inn;
+  mentions = λ u. (row_of s u).mentions;
+  mentioners = λ u. (row_of s u).mentioners;
+  said = λ u. (row_of s u).said;
+  uses = λ u. (row_of s u).uses;
+  tag_users = λ t. users_of s t;
+}
+
+-- users and tags ascend, live on this partition, and have something each
+pub record IsStore (s : PartState) : Type 0 where
+  pub users_ascend : IsStrictlySortedBy user_cmp (keys_of s.rows)
+  pub tags_ascend : IsStrictlySortedBy tag_cmp (keys_of s.tags)
+  pub rows : (u : User) (r : UserRow) → lookup (same_user u) s.rows ≡ Some r → (user_part s.parts u ≡ s.part) × (is_blank r ≡ false)
+  pub tags : (t : List ℕ) (us : List User) → lookup (same_tag t) s.tags ≡ Some us → (tag_part s.parts t ≡ s.part) × (is_none us ≡ false)
