@@ -6,7 +6,7 @@ ghost use Rattle.kin_graph.specs.Lists.{IsFirstAdded, IsIndex, IsOnce, change_of
 
 use crate::changes::Change;
 use kin_ids::Memory;
-use std::alloc::Global;
+use std::alloc::{AllocError, Global};
 use std::collections::BTreeMap;
 use std::marker::Model;
 
@@ -113,19 +113,6 @@ impl<K: Ord + Copy + Drop, T: Keyed<K> + Copy + Drop> FirstAdded<K, T> {
         }
     }
 
-    /// An equal list. O(n log n).
-    pub(crate) fn copy(&self) -> Result<Self, Memory>
-        ensures { IfOk result (λ list. list ≡ self.now) }
-    {
-        let items = Vec::from_slice(self.alloc, &self.items)?;
-        let places = copied_index(self.alloc, &self.places, &self.items)?;
-        Ok(FirstAdded {
-            alloc: self.alloc,
-            items,
-            places,
-        })
-    }
-
     /// Writes over an item. The key stays the same.
     pub(crate) fn replace(&mut self, place: usize, item: T)
         requires place { place < length self.old }
@@ -133,6 +120,21 @@ impl<K: Ord + Copy + Drop, T: Keyed<K> + Copy + Drop> FirstAdded<K, T> {
         ensures { self.new ≡ slice_set self.old place item }
     {
         self.items[place] = item;
+    }
+}
+
+/// A clone is an equal list. O(n log n).
+impl<K: Ord + Copy + Drop, T: Keyed<K> + Copy + Drop> Clone for FirstAdded<K, T> {
+    ghost is_clone = { λ list result. result ≡ list };
+
+    fn clone(&self) -> Result<Self, AllocError> {
+        let items = Vec::from_slice(self.alloc, &self.items)?;
+        let places = copied_index(self.alloc, &self.places, &self.items)?;
+        Ok(FirstAdded {
+            alloc: self.alloc,
+            items,
+            places,
+        })
     }
 }
 
@@ -163,7 +165,7 @@ fn copied_index<K: Ord + Copy + Drop, T: Keyed<K>>(
     alloc: Global,
     places: &BTreeMap<K, usize>,
     items: &[T],
-) -> Result<BTreeMap<K, usize>, Memory>
+) -> Result<BTreeMap<K, usize>, AllocError>
     requires { IsFirstAdded K.cmp T.key 16 items.now places.now.entries }
     ensures { IfOk result (λ m. IsFirstAdded K.cmp T.key 16 items.now m.entries) }
 {
@@ -177,7 +179,7 @@ fn copied_index<K: Ord + Copy + Drop, T: Keyed<K>>(
 fn index_of<K: Ord + Copy + Drop, T: Keyed<K>>(
     alloc: Global,
     items: &[T],
-) -> Result<BTreeMap<K, usize>, Memory>
+) -> Result<BTreeMap<K, usize>, AllocError>
     requires { IsOnce K.cmp T.key items.now }
     ensures { IfOk result (λ m. IsIndex K.cmp T.key items.now m.entries) }
 {

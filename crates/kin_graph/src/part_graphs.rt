@@ -47,6 +47,19 @@ impl PartGraph {
             tags: BTreeMap::new(alloc),
         })
     }
+
+    /// An equal store. O(n log n) for n items in it.
+    pub fn copy(&self) -> Result<PartGraph, Memory>
+        ensures { IfOk result (λ g. g ≡ self.now) }
+    {
+        Ok(PartGraph {
+            alloc: self.alloc,
+            part: self.part,
+            parts: self.parts,
+            rows: self.rows.clone()?,
+            tags: self.tags.clone()?,
+        })
+    }
 }
 
 // The users of the rows that aren't apart.

@@ -7,7 +7,7 @@ use crate::changes::Change;
 use crate::first_added::{FirstAdded, Keyed};
 use crate::halves::{Halves, add_half, turn, turn_back};
 use kin_ids::{Half, Memory, Op, Place, Tag, Use, User};
-use std::alloc::Global;
+use std::alloc::{AllocError, Global};
 use std::marker::Model;
 
 impl Keyed<User> for User {
@@ -160,17 +160,19 @@ impl Row {
             Op::TagUse(..) => {}
         }
     }
+}
 
-    /// An equal row. O(n log n).
-    pub(crate) fn copy(&self) -> Result<Row, Memory>
-        ensures { IfOk result (λ row. row ≡ self.now) }
-    {
+/// A clone is an equal row. O(n log n).
+impl Clone for Row {
+    ghost is_clone = { λ row result. result ≡ row };
+
+    fn clone(&self) -> Result<Row, AllocError> {
         Ok(Row {
-            out: self.out.copy()?,
-            inn: self.inn.copy()?,
-            mentions: self.mentions.copy()?,
-            mentioners: self.mentioners.copy()?,
-            uses: self.uses.copy()?,
+            out: self.out.clone()?,
+            inn: self.inn.clone()?,
+            mentions: self.mentions.clone()?,
+            mentioners: self.mentioners.clone()?,
+            uses: self.uses.clone()?,
             said: self.said,
         })
     }
