@@ -3,8 +3,9 @@
 ghost use Rattle.std.specs.Prelude.{◌≡◌};
 
 use crate::{Held, Taken};
-use kin_ids::{Inc, IngestId, Memory, Ops, PartId, Piece, Stamp};
+use kin_ids::{Inc, IngestId, Ops, PartId, Piece, Stamp};
 use std::alloc::Global;
+use std::process::Abort;
 use std::test::Fail;
 
 const NODE: IngestId = IngestId(0);
@@ -29,87 +30,84 @@ fn piece(alloc: Global, inc: u16, from: u64, to: u64, base: u64) -> Piece
     }
 }
 
-// What a chain answers to pieces, each given as its incarnation, its range and its base. One that
-// isn't well-formed is left out.
-fn answers(alloc: Global, pieces: &[(u16, u64, u64, u64)]) -> Result<Vec<Taken>, Memory> {
-    let mut held = Held::new(alloc, 1)?;
-    let mut all = Vec::new(alloc);
-    for &(inc, from, to, base) in pieces {
-        if base <= from && from < to && to - from <= 16 {
-            all.push(held.take(piece(alloc, inc, from, to, base))?)?;
-        }
+// Delivers pieces of node 0 in turn, each given as its incarnation, its range and its base, beside
+// the answer that it must get.
+fn assert_answers<R: Abort + AllocGlobal>(
+    rt: &R,
+    deliveries: &[((u16, u64, u64, u64), Taken)],
+) -> Result<(), Fail> {
+    let mut held = Held::new(rt.alloc(), 1)?;
+    for &((inc, from, to, base), answer) in deliveries {
+        assert!(rt; base <= from && from < to && to - from <= 16);
+        let taken = held.take(piece(rt.alloc(), inc, from, to, base))?;
+        assert_eq!(rt; taken, answer, "incarnation {inc}, range {from} to {to}");
     }
-    Ok(all)
+    Ok(())
 }
 
 #[test]
 fn pieces_out_of_order_and_again(rt: HostRuntime) -> Result<(), Fail> {
-    let again = answers(rt.alloc(), &[(0, 0, 1, 0), (0, 0, 1, 0), (0, 0, 1, 0)])?;
-    assert_eq!(rt;
-        again.as_slice(),
-        [Taken::Held(1), Taken::Repeat, Taken::Repeat].as_slice()
-    );
-
-    let reversed = answers(rt.alloc(), &[(0, 1, 2, 0), (0, 0, 1, 0)])?;
-    assert_eq!(rt;
-        reversed.as_slice(),
-        [Taken::Early(0), Taken::Held(2)].as_slice()
-    );
-
-    let last_first = answers(
-        rt.alloc(),
+    assert_answers(
+        &rt,
         &[
-            (0, 4, 20, 0),
-            (0, 2, 4, 0),
-            (0, 4, 20, 0),
-            (0, 0, 2, 0),
-            (0, 2, 4, 0),
+            ((0, 0, 1, 0), Taken::Held(1)),
+            ((0, 0, 1, 0), Taken::Repeat),
+            ((0, 0, 1, 0), Taken::Repeat),
         ],
     )?;
-    let want = [
-        Taken::Early(0),
-        Taken::Early(0),
-        Taken::Repeat,
-        Taken::Held(20),
-        Taken::Repeat,
-    ];
-    assert_eq!(rt; last_first.as_slice(), want.as_slice());
-    Ok(())
+    assert_answers(
+        &rt,
+        &[
+            ((0, 1, 2, 0), Taken::Early(0)),
+            ((0, 0, 1, 0), Taken::Held(2)),
+        ],
+    )?;
+    assert_answers(
+        &rt,
+        &[
+            ((0, 4, 20, 0), Taken::Early(0)),
+            ((0, 2, 4, 0), Taken::Early(0)),
+            ((0, 4, 20, 0), Taken::Repeat),
+            ((0, 0, 2, 0), Taken::Held(20)),
+            ((0, 2, 4, 0), Taken::Repeat),
+        ],
+    )
 }
 
 #[test]
-fn a_restart_inside_the_chain(rt: HostRuntime) -> Result<(), Fail> {
-    let one = answers(
-        rt.alloc(),
+fn restarts_of_the_node(rt: HostRuntime) -> Result<(), Fail> {
+    assert_answers(
+        &rt,
         &[
-            (0, 0, 1, 0),
-            (0, 2, 3, 0),
-            (0, 1, 2, 0),
-            (1, 1, 3, 1),
-            (0, 1, 2, 0),
+            ((0, 0, 1, 0), Taken::Held(1)),
+            ((0, 2, 3, 0), Taken::Early(1)),
+            ((0, 1, 2, 0), Taken::Held(3)),
+            ((1, 1, 3, 1), Taken::Held(3)),
+            ((0, 1, 2, 0), Taken::Stale(Inc(1))),
         ],
     )?;
-    let want = [
-        Taken::Held(1),
-        Taken::Early(1),
-        Taken::Held(3),
-        Taken::Held(3),
-        Taken::Stale(Inc(1)),
-    ];
-    assert_eq!(rt; one.as_slice(), want.as_slice());
-
-    let first_part = answers(rt.alloc(), &[(0, 0, 2, 0), (1, 0, 1, 0)])?;
-    assert_eq!(rt;
-        first_part.as_slice(),
-        [Taken::Held(2), Taken::Held(1)].as_slice()
-    );
-
-    let second_part = answers(rt.alloc(), &[(1, 0, 1, 0), (0, 0, 2, 0)])?;
-    assert_eq!(rt;
-        second_part.as_slice(),
-        [Taken::Held(1), Taken::Stale(Inc(1))].as_slice()
-    );
-    Ok(())
+    assert_answers(
+        &rt,
+        &[
+            ((0, 0, 2, 0), Taken::Held(2)),
+            ((1, 0, 1, 0), Taken::Held(1)),
+        ],
+    )?;
+    assert_answers(
+        &rt,
+        &[
+            ((1, 0, 1, 0), Taken::Held(1)),
+            ((0, 0, 2, 0), Taken::Stale(Inc(1))),
+        ],
+    )?;
+    assert_answers(
+        &rt,
+        &[
+            ((0, 0, 2, 0), Taken::Held(2)),
+            ((1, 3, 4, 2), Taken::Early(2)),
+            ((1, 2, 3, 2), Taken::Held(4)),
+        ],
+    )
 }
 
 #[test]

@@ -1,5 +1,0 @@
-use Rattle.std.proofs.Common.{◌≡◌, length}
-use Rattle.kin_held.proofs.tests.answers.Given as goal
-
-abbrev pub invariant-loop-inc : goal.invariant-loop-inc
-invariant-loop-inc l = length l.held ≡ 1
