@@ -1,0 +1,12 @@
+pub mod Fronts
+pub mod Writes
+pub mod Begins
+pub mod Placing
+pub mod Holding
+pub mod Taking
+pub mod Reporting
+pub mod Sealing
+pub mod Running
+pub mod Raising
+pub mod Opening
+pub mod Goings

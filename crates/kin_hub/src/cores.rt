@@ -1,0 +1,167 @@
+//! The core of a hub: the partitions' chains, and the table.
+
+ghost use Rattle.std.specs.Prelude.{◌≡◌, ◌≤◌, ◌<◌, ◌↔◌, ℕ, All, IfOk, OnErr, OnOk, IsErr, length, map, replicate};
+ghost use Rattle.kin_ids.specs.Operations.{IsWellFormed};
+ghost use Rattle.kin_held.specs.Chains.{ChainView};
+ghost use Rattle.kin_hub.specs.Cores.{kept_inc};
+
+use crate::runs::shared_end;
+use kin_held::{Held, Taken};
+use kin_ids::{Inc, IngestId, Memory, PartId, Piece};
+use kin_table::{End, IncarnationsSpent, Raised, Table};
+use std::alloc::Global;
+use std::marker::Model;
+
+/// The chains of each partition, and the table. `incs` and `tops` have room for a report.
+#[derive(Drop)]
+pub(crate) struct Core {
+    helds: Vec<Held>,
+    table: Table,
+    incs: Vec<Inc>,
+    tops: Vec<u64>,
+}
+
+impl Model for Core {
+    ghost use Rattle.std.specs.Prelude.{◌≡◌, length};
+    ghost use Rattle.kin_hub.specs.Cores.{CoreView, IsCore};
+
+    ghost Value = { CoreView };
+
+    ghost view = { λ c. record { helds = c.helds.items; table = c.table } };
+
+    ghost invariant = { λ c. IsCore (record { helds = c.helds.items; table = c.table })
+        × (length c.incs.items ≡ length c.table.agreed) × (length c.tops.items ≡ length c.table.agreed) };
+}
+
+impl Core {
+    ghost use Rattle.kin_held.specs.Takes.{taken_of};
+    ghost use Rattle.kin_table.specs.Tables.{agreed_of, inc_of, base_of, reach_of, raised_of, missing_of};
+    ghost use Rattle.kin_hub.specs.Cores.{CoreTakes, IsCore, chain_of, least_reach, ready, with_report, with_raise, with_seal};
+    ghost use Rattle.kin_hub.specs.Opens.{first_core};
+
+    /// Nothing came yet.
+    pub fn new(alloc: Global, nodes: u16, parts: u16) -> Result<Core, Memory>
+        requires nodes { 0 < nodes }
+        requires parts { 0 < parts }
+        ensures value { IfOk result (λ c. c ≡ first_core nodes parts) }
+        ensures core { IfOk result IsCore }
+    {
+        let mut helds = Vec::with_capacity(alloc, usize::from(parts))?;
+        for _part in 0..parts {
+            helds.push(Held::new(alloc, nodes)?)?;
+        }
+        let count = usize::from(nodes);
+        Ok(Core {
+            helds,
+            table: Table::new(alloc, nodes, parts)?,
+            incs: vec![in alloc; Inc(0); count]?,
+            tops: vec![in alloc; 0; count]?,
+        })
+    }
+
+    /// A partition takes a piece.
+    pub fn take(&mut self, piece: Piece) -> Result<Taken, Memory>
+        requires formed { IsWellFormed piece }
+        requires node { piece.stamp.ingest.0 < length self.old.table.agreed }
+        requires part { piece.part.0 < length self.old.helds }
+        ensures answer { IfOk result (λ taken.
+            taken ≡ taken_of (chain_of self.old piece.part.0 piece.stamp.ingest.0) piece
+            (chain_of self.new piece.part.0 piece.stamp.ingest.0).top) }
+        ensures taken { IfOk result (λ taken. CoreTakes self.old piece taken self.new) }
+        ensures err { OnErr result (self.new ≡ self.old) }
+        ensures core { IsCore self.new }
+    {
+        let held = &mut self.helds[usize::from(piece.part.0)];
+        held.take(piece)
+    }
+
+    /// Writes a partition's row anew. It costs O(n) in the nodes.
+    pub fn report(&mut self, p: PartId)
+        requires { p.0 < length self.old.helds }
+        ensures row { self.new ≡ with_report self.old p.0 }
+        ensures core { IsCore self.new }
+    {
+        let held = &self.helds[usize::from(p.0)];
+        read(held, &mut self.incs, &mut self.tops);
+        self.table.report(p, &self.incs, &self.tops);
+    }
+
+    /// Up to where the agreed position of node `i` may be raised. It costs a search by halves in the chain of each partition,
+    /// and O(n) in the stamps that are new there.
+    pub fn ready(&self, i: IngestId) -> u64
+        requires node { i.0 < length self.now.table.agreed }
+        requires reached { (p : ℕ) → p < length self.now.table.rows
+            → agreed_of self.now.table i.0 ≤ reach_of self.now.table p i.0 }
+        ensures { result ≡ ready self.now i.0 }
+    {
+        let agreed = self.table.agreed(i);
+        let reach = self.least_reach(i);
+        shared_end(&self.helds, i, agreed, reach)
+    }
+
+    /// Raises the agreed position of node `i` to the ready one.
+    pub fn raise(&mut self, i: IngestId) -> Raised
+        requires node { i.0 < length self.old.table.agreed }
+        requires at_least { agreed_of self.old.table i.0 ≤ ready self.old i.0 }
+        requires at_most { (p : ℕ) → p < length self.old.table.rows
+            → ready self.old i.0 ≤ reach_of self.old.table p i.0 }
+        ensures answer { result ≡ raised_of (agreed_of self.old.table i.0) (ready self.old i.0) }
+        ensures raised { self.new ≡ with_raise self.old i.0 }
+        ensures core { IsCore self.new }
+    {
+        let ready = self.ready(i);
+        self.table.raise(i, ready)
+    }
+
+    /// Ends the incarnation of node `i` at the agreed position.
+    pub fn seal(&mut self, i: IngestId) -> Result<End, IncarnationsSpent>
+        requires { i.0 < length self.old.table.agreed }
+        ensures spent { IsErr result ↔ (inc_of self.old.table i.0 ≡ u16.MAX) }
+        ensures err { OnErr result (self.new ≡ self.old) }
+        ensures base { IfOk result (λ end. end ≡ base_of self.old.table i.0) }
+        ensures sealed { OnOk result (self.new ≡ with_seal self.old i.0) }
+        ensures core { IsCore self.new }
+    {
+        self.table.seal(i)
+    }
+
+    pub fn agreed(&self, i: IngestId) -> u64
+        requires { i.0 < length self.now.table.agreed }
+        ensures { result ≡ agreed_of self.now.table i.0 }
+    {
+        self.table.agreed(i)
+    }
+
+    pub fn inc(&self, i: IngestId) -> Inc
+        requires { i.0 < length self.now.table.agreed }
+        ensures { result.0 ≡ inc_of self.now.table i.0 }
+    {
+        self.table.inc(i)
+    }
+
+    fn least_reach(&self, i: IngestId) -> u64
+        requires { i.0 < length self.now.table.agreed }
+        ensures { result ≡ least_reach self.now i.0 }
+    {
+        let mut least = self.table.reach(PartId(0), i);
+        for p in 0..self.helds.len() {
+            least = least.min(self.table.reach(PartId(p as u16), i));
+        }
+        least
+    }
+}
+
+// Writes down the incarnations and the tops of a partition's chains.
+fn read(held: &Held, incs: &mut [Inc], tops: &mut [u64])
+    requires incs { length incs.old ≡ length held.now }
+    requires tops { length tops.old ≡ length held.now }
+    requires few { length held.now < 65536 }
+    ensures incs { incs.new ≡ map kept_inc held.now }
+    ensures tops { tops.new ≡ map (λ (chain : ChainView). chain.top) held.now }
+{
+    for i in 0..incs.len() {
+        let node = IngestId(i as u16);
+        incs[i] = held.inc(node);
+        tops[i] = held.top(node);
+    }
+}

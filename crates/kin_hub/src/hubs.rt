@@ -1,0 +1,129 @@
+//! The hub.
+
+ghost use Rattle.std.specs.Prelude.{◌≡◌, ◌<◌, ◌↔◌, ℕ, List, IfOk, OnErr, OnOk, IsErr, length};
+ghost use Rattle.kin_ids.specs.declared.ops.Record.{Record};
+
+use crate::cores::Core;
+use kin_held::Taken;
+use kin_ids::{Inc, IngestId, Memory, PartId, Piece};
+use kin_table::{End, IncarnationsSpent, Raised};
+use std::alloc::Global;
+use std::marker::Model;
+
+/// The partitions, what they reported, and what is agreed. In every call nodes and partitions are in range.
+#[derive(Drop)]
+pub struct Hub {
+    core: Core,
+}
+
+impl Model for Hub {
+    ghost use Rattle.kin_hub.specs.Hubs.{HubView};
+    ghost use Rattle.kin_hub.specs.Stands.{HasStands};
+
+    ghost Value = { HubView };
+
+    ghost view = { λ h. record { core = h.core } };
+
+    ghost invariant = { λ h. HasStands (record { core = h.core }) };
+}
+
+impl Hub {
+    ghost use Rattle.kin_ids.specs.Lines.{end_of};
+    ghost use Rattle.kin_held.specs.Takes.{taken_of};
+    ghost use Rattle.kin_hub.specs.Fronts.{IsLongestFront};
+    ghost use Rattle.kin_table.specs.Tables.{base_of, raised_of};
+    ghost use Rattle.kin_hub.specs.Cores.{CoreTakes, least_reach, past_in, ready_run, ready, with_report, with_raise, with_seal};
+    ghost use Rattle.kin_hub.specs.Hubs.{parts_in, nodes_in, chain_in, agreed_in, inc_in};
+    ghost use Rattle.kin_hub.specs.Opens.{first_hub, no_lines, first_bases, no_vectors};
+    ghost use Rattle.kin_hub.specs.Stands.{HubStands};
+    ghost use Rattle.kin_hub.specs.Goes.{Knows, HubPlaces, HubKeeps, HubRaises, HubSeals};
+
+    /// Nothing came yet. It stands for no lines, over every list of feeds with one feed for each node.
+    pub fn new(alloc: Global, nodes: u16, parts: u16) -> Result<Hub, Memory>
+        requires nodes { 0 < nodes }
+        requires parts { 0 < parts }
+        ensures value { IfOk result (λ h. h ≡ first_hub nodes parts) }
+        ensures stands { IfOk result (λ h. (feeds : List (List Record)) → length feeds ≡ nodes
+            → HubStands parts feeds no_lines first_bases no_vectors h) }
+    {
+        Ok(Hub {
+            core: Core::new(alloc, nodes, parts)?,
+        })
+    }
+
+    /// A partition takes a piece. After `Memory` the piece is gone. It costs O(log n) in the early pieces of the chain for itself
+    /// and for each piece that joins with it; a later incarnation costs what it drops besides.
+    pub fn take(&mut self, piece: Piece) -> Result<Taken, Memory>
+        requires node { piece.stamp.ingest.0 < nodes_in self.old }
+        requires part { piece.part.0 < parts_in self.old }
+        requires known { Knows self.old piece }
+        ensures answer { IfOk result (λ taken.
+            taken ≡ taken_of (chain_in self.old piece.part.0 piece.stamp.ingest.0) piece
+            (chain_in self.new piece.part.0 piece.stamp.ingest.0).top) }
+        ensures taken { IfOk result (λ taken. CoreTakes self.old.core piece taken self.new.core) }
+        ensures stands { IfOk result (λ _. HubPlaces self.old piece self.new) }
+        ensures err { OnErr result (self.new ≡ self.old) }
+    {
+        self.core.take(piece)
+    }
+
+    /// Writes a partition's row anew: of each node the incarnation that its chain keeps, and its top. It costs O(n) in the nodes,
+    /// and takes no memory.
+    pub fn report(&mut self, p: PartId)
+        requires { p.0 < parts_in self.old }
+        ensures row { self.new ≡ record { core = with_report self.old.core p.0 } }
+        ensures stands { HubKeeps self.old self.new }
+    {
+        self.core.report(p);
+    }
+
+    /// Up to where the agreed position of node `i` may be raised: the end of the run past it that the chains of all partitions
+    /// share, up to the least reach. It costs a search by halves in the chain of each partition, and O(n) in the stamps that are
+    /// new there.
+    pub fn ready(&self, i: IngestId) -> u64
+        requires { i.0 < nodes_in self.now }
+        ensures end { result ≡ end_of (agreed_in self.now i.0) (ready_run self.now.core i.0) }
+        ensures run { IsLongestFront (least_reach self.now.core i.0)
+            (past_in self.now.core.helds (agreed_in self.now i.0) i.0) (ready_run self.now.core i.0) }
+    {
+        self.core.ready(i)
+    }
+
+    /// Raises the agreed position of node `i` to the ready one, at the cost of `ready`. It takes no memory.
+    pub fn raise(&mut self, i: IngestId) -> Raised
+        requires { i.0 < nodes_in self.old }
+        ensures answer { result ≡ raised_of (agreed_in self.old i.0) (ready self.old.core i.0) }
+        ensures raised { self.new ≡ record { core = with_raise self.old.core i.0 } }
+        ensures stands { HubRaises self.old i.0 self.new }
+    {
+        self.core.raise(i)
+    }
+
+    /// Ends the incarnation of node `i` at the agreed position, where the next one begins. It costs O(1), and takes no memory.
+    pub fn seal(&mut self, i: IngestId) -> Result<End, IncarnationsSpent>
+        requires { i.0 < nodes_in self.old }
+        ensures spent { IsErr result ↔ (inc_in self.old i.0 ≡ u16.MAX) }
+        ensures err { OnErr result (self.new ≡ self.old) }
+        ensures base { IfOk result (λ end. end ≡ base_of self.old.core.table i.0) }
+        ensures sealed { OnOk result (self.new ≡ record { core = with_seal self.old.core i.0 }) }
+        ensures stands { OnOk result (HubSeals self.old i.0 self.new) }
+    {
+        self.core.seal(i)
+    }
+
+    /// Up to where every partition has node `i`, as last raised. It costs O(1).
+    pub fn agreed(&self, i: IngestId) -> u64
+        requires { i.0 < nodes_in self.now }
+        ensures { result ≡ agreed_in self.now i.0 }
+    {
+        self.core.agreed(i)
+    }
+
+    /// The incarnation of node `i`. It costs O(1).
+    pub fn inc(&self, i: IngestId) -> Inc
+        requires { i.0 < nodes_in self.now }
+        ensures { result.0 ≡ inc_in self.now i.0 }
+    {
+        self.core.inc(i)
+    }
+}
