@@ -1,4 +1,5 @@
--- Taking a piece keeps what a chain stands for.
+-- Taking a piece keeps what a chain stands for. The pieces that join are a line of stamps that arrived, and none that is left begins
+-- where they end: so the chain has the longest front that arrived. Early pieces are counted by stamp, since what joins leaves them.
 use Rattle.std.proofs.Common.{◌≡◌, ℕ, ◌+◌, ◌<◌, ◌≤◌, Bool, true, false, cond, leb, ltb, ◌&&◌, ◌||◌, inl, inr, ⊎_elim, List, [], ◌∷◌, ◌++◌, refl, sym, ◌∙◌, ap, subst, arith, append_assoc}
 use Rattle.std.proofs.lemmas.Bool.{cond_both, cond-true, cond-false, and_parts, and_from, and_left, and_right, or_cases, or_left, or_right, or_parts, or_from, leb-true, leb-false, le-leb, lt-leb, lt-ltb, le-ltb, cases_lt, cases_Bool, false_from_ne_true, both_ways}
 use Rattle.std.proofs.lemmas.List.{append-nil}
@@ -29,6 +30,7 @@ has-append (x ∷ xs) ys s = rw (has-append xs ys s) (or_assoc (same_stamp x s) 
     or_assoc true b c = refl
     or_assoc false b c = refl
 
+-- D is what arrived, `pre` the line up to the base `from`, L the stamps of the incarnation c of node i, and f the floor
 module _ (i c from f : ℕ) (D pre L : List Stamp) (old : ChainView) (p : Piece) (line : IsLine from L) (chain : IsChainOf i c from f D pre L old) (low : f ≤ old.top)
     (ours : (s : Stamp) → has L s ≡ true → is_of i c s ≡ true) (known : (s : Stamp) → has D s ≡ true → is_of i c s ≡ true → has L s ≡ true)
     (made : has L p.stamp ≡ true) where
