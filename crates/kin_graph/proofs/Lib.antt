@@ -1,3 +1,5 @@
 pub mod Places
 pub mod Turns
 pub mod Stores
+pub mod Blanks
+pub mod Undoing

@@ -5,6 +5,7 @@ mod changes;
 mod first_added;
 mod halves;
 pub mod part_graphs;
+mod part_views;
 mod rows;
 pub mod ticks;
 pub mod views;

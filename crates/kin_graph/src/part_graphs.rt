@@ -1,26 +1,30 @@
 //! The store of one partition.
 
-ghost use Rattle.std.specs.Prelude.{◌≡◌, ◌<◌, ◌^◌, IfOk, OnOk, OnErr, filter, map, not};
-ghost use Rattle.kin_graph.specs.Rows.{is_apart};
+ghost use Rattle.std.specs.Prelude.{◌≡◌, ◌<◌, ◌^◌, IfOk, OnOk, OnErr};
+ghost use Rattle.kin_ids.specs.declared.ids.User.{User};
+ghost use Rattle.kin_ids.specs.Parting.{tag_part, user_part};
+ghost use Rattle.kin_ids.specs.Operations.{op_part};
+ghost use Rattle.kin_ids.specs.Parts.{with_member};
+ghost use Rattle.kin_graph.specs.Lists.{taken_back};
+ghost use Rattle.kin_graph.specs.Rows.{row_applied, row_undone};
 ghost use Rattle.kin_graph.specs.State.{empty_part, row_of, users_of};
+ghost use Rattle.kin_graph.specs.Changes.{done, kept, undone, with_row, with_users};
 
 use crate::changes::Change;
 use crate::rows::{Row, Users};
-use crate::{Steps, View};
-use kin_ids::{Half, Memory, Op, PartId, Place, Tag, Use, User};
+use kin_ids::{Memory, Op, PartId, Place, Tag, User};
 use std::alloc::Global;
 use std::collections::BTreeMap;
 use std::marker::Model;
-use std::sync::ledger::Ledger;
 
 /// One partition's part of the graph: the rows of its users and the users of its tags, in ordered maps.
 #[derive(Drop)]
 pub struct PartGraph {
-    alloc: Global,
+    pub(crate) alloc: Global,
     part: PartId,
     parts: u16,
-    rows: BTreeMap<User, Row>,
-    tags: BTreeMap<Tag, Users>,
+    pub(crate) rows: BTreeMap<User, Row>,
+    pub(crate) tags: BTreeMap<Tag, Users>,
 }
 
 impl Model for PartGraph {
@@ -60,100 +64,108 @@ impl PartGraph {
             tags: self.tags.clone()?,
         })
     }
-}
 
-// The users of the rows that aren't apart.
-fn vertices(alloc: Global, rows: &BTreeMap<User, Row>) -> Result<Vec<User>, Memory>
-    ensures { IfOk result (λ us. us.items ≡ map (λ e. e.0) (filter (λ e. not (is_apart e.1)) rows.now.entries)) }
-{
-    let mut users = Vec::new(alloc);
-    for (user, row) in rows {
-        if row.is_vertex() {
-            users.push(*user)?;
-        }
-    }
-    Ok(users)
-}
-
-const NO_HALVES: &[Half] = &[];
-
-const NO_USERS: &[User] = &[];
-
-impl View for PartGraph {
-    ghost use Rattle.kin_graph.specs.State.{view_of};
-
-    ghost seen = { view_of };
-
-    fn users(&self) -> Result<Vec<User>, Memory> {
-        vertices(self.alloc, &self.rows)
-    }
-
-    fn tags(&self) -> Result<Vec<Tag>, Memory> {
-        let tags = self.tags.keys().copied().collect(self.alloc)?;
-        Ok(tags)
-    }
-
-    fn is_vertex(&self, u: User) -> bool {
-        match self.rows.get(&u) {
-            Some(row) => row.is_vertex(),
-            None => false,
+    // Does what an operation of this partition says.
+    fn apply_op(&mut self, place: Place, op: &Op) -> Result<Change, Memory>
+        requires home { op_part self.old.parts op.now ≡ self.old.part }
+        requires said { (u : User) → ((done place (kept self.old) op.now).row u).said < 2 ^ 64 }
+        ensures ok { OnOk result (kept self.new ≡ done place (kept self.old) op.now) }
+        ensures back { IfOk result (λ change. undone op.now change (kept self.new) ≡ kept self.old) }
+        ensures same { (self.new.part ≡ self.old.part) × (self.new.parts ≡ self.old.parts) }
+        ensures err { OnErr result (self.new ≡ self.old) }
+    {
+        match op {
+            Op::TagUse(tag, user) => self.add_tag_user(*tag, *user),
+            Op::AddOut(user, _)
+            | Op::AddIn(user, _)
+            | Op::DropOut(user, _)
+            | Op::DropIn(user, _)
+            | Op::MentionOut(user, _)
+            | Op::MentionIn(user, _)
+            | Op::Said(user)
+            | Op::Use(user, _) => self.apply_to_user(*user, place, op),
         }
     }
 
-    fn said(&self, u: User) -> u64 {
-        match self.rows.get(&u) {
-            Some(row) => row.said(),
-            None => 0,
+    // Does in a user's row what an operation says.
+    fn apply_to_user(&mut self, user: User, place: Place, op: &Op) -> Result<Change, Memory>
+        requires home { user_part self.old.parts user ≡ self.old.part }
+        requires said { (row_applied place (row_of self.old user) op.now).said < 2 ^ 64 }
+        ensures ok { OnOk result (kept self.new ≡ with_row (kept self.old) user (row_applied place (row_of self.old user) op.now)) }
+        ensures back { IfOk result (λ change. row_undone op.now change (row_applied place (row_of self.old user) op.now) ≡ row_of self.old user) }
+        ensures same { (self.new.part ≡ self.old.part) × (self.new.parts ≡ self.old.parts) }
+        ensures err { OnErr result (self.new ≡ self.old) }
+    {
+        if let Some(row) = self.rows.get_mut(&user) {
+            return row.apply(place, op);
+        }
+        let mut row = Row::new(self.alloc);
+        let change = row.apply(place, op)?;
+        if row.is_blank() {
+            return Ok(change);
+        }
+        self.rows.insert(user, row)?;
+        Ok(change)
+    }
+
+    // The user has used the tag.
+    fn add_tag_user(&mut self, tag: Tag, user: User) -> Result<Change, Memory>
+        requires home { tag_part self.old.parts tag ≡ self.old.part }
+        ensures ok { OnOk result (kept self.new ≡ with_users (kept self.old) tag (with_member user (users_of self.old tag))) }
+        ensures back { IfOk result (λ change. taken_back change (with_member user (users_of self.old tag)) ≡ users_of self.old tag) }
+        ensures same { (self.new.part ≡ self.old.part) × (self.new.parts ≡ self.old.parts) }
+        ensures err { OnErr result (self.new ≡ self.old) }
+    {
+        if let Some(users) = self.tags.get_mut(&tag) {
+            return users.put(user);
+        }
+        let mut users = Users::new(self.alloc);
+        let change = users.put(user)?;
+        self.tags.insert(tag, users)?;
+        Ok(change)
+    }
+
+    // Takes back what an operation changed last.
+    fn take_back(&mut self, op: &Op, change: Change)
+        ensures ok { kept self.new ≡ undone op.now change (kept self.old) }
+        ensures same { (self.new.part ≡ self.old.part) × (self.new.parts ≡ self.old.parts) }
+    {
+        match op {
+            Op::TagUse(tag, _) => self.take_tag_user_back(*tag, change),
+            Op::AddOut(user, _)
+            | Op::AddIn(user, _)
+            | Op::DropOut(user, _)
+            | Op::DropIn(user, _)
+            | Op::MentionOut(user, _)
+            | Op::MentionIn(user, _)
+            | Op::Said(user)
+            | Op::Use(user, _) => self.take_back_from_user(*user, op, change),
         }
     }
 
-    fn uses(&self, u: User) -> &[Use] {
-        match self.rows.get(&u) {
-            Some(row) => row.uses(),
-            None => &[],
-        }
-    }
-
-    fn tag_users(&self, t: Tag) -> u64 {
-        match self.tags.get(&t) {
-            Some(users) => users.items().len() as u64,
-            None => 0,
-        }
-    }
-
-    fn out<'a, L: Ledger>(&'a self, u: User, steps: &mut Steps<L>) -> &'a [Half] {
-        let halves = match self.rows.get(&u) {
-            Some(row) => row.out(),
-            None => NO_HALVES,
+    fn take_back_from_user(&mut self, user: User, op: &Op, change: Change)
+        ensures ok { kept self.new ≡ with_row (kept self.old) user (row_undone op.now change (row_of self.old user)) }
+        ensures same { (self.new.part ≡ self.old.part) × (self.new.parts ≡ self.old.parts) }
+    {
+        let Some(row) = self.rows.get_mut(&user) else {
+            return;
         };
-        steps.tick_by(1 + halves.len() as u64);
-        halves
+        row.take_back(op, change);
+        if row.is_blank() {
+            self.rows.remove(&user);
+        }
     }
 
-    fn inn<'a, L: Ledger>(&'a self, u: User, steps: &mut Steps<L>) -> &'a [Half] {
-        let halves = match self.rows.get(&u) {
-            Some(row) => row.inn(),
-            None => NO_HALVES,
+    fn take_tag_user_back(&mut self, tag: Tag, change: Change)
+        ensures ok { kept self.new ≡ with_users (kept self.old) tag (taken_back change (users_of self.old tag)) }
+        ensures same { (self.new.part ≡ self.old.part) × (self.new.parts ≡ self.old.parts) }
+    {
+        let Some(users) = self.tags.get_mut(&tag) else {
+            return;
         };
-        steps.tick_by(1 + halves.len() as u64);
-        halves
-    }
-
-    fn mentions<'a, L: Ledger>(&'a self, u: User, steps: &mut Steps<L>) -> &'a [User] {
-        let users = match self.rows.get(&u) {
-            Some(row) => row.mentions(),
-            None => NO_USERS,
-        };
-        steps.tick_by(1 + users.len() as u64);
-        users
-    }
-
-    fn mentioners<'a, L: Ledger>(&'a self, u: User, steps: &mut Steps<L>) -> &'a [User] {
-        let users = match self.rows.get(&u) {
-            Some(row) => row.mentioners(),
-            None => NO_USERS,
-        };
-        steps.tick_by(1 + users.len() as u64);
-        users
+        users.take_back(change);
+        if users.items().is_empty() {
+            self.tags.remove(&tag);
+        }
     }
 }

@@ -1,6 +1,6 @@
 use Rattle.std.proofs.Common.{◌≡◌, ◌++◌, not, map, filter}
 use Rattle.kin_graph.specs.Rows.{is_apart}
-use Rattle.kin_graph.proofs.part_graphs.vertices.Given as goal
+use Rattle.kin_graph.proofs.part_views.vertices.Given as goal
 
 -- the users so far, and those of the rows that are left
 abbrev pub invariant-loop-user : goal.invariant-loop-user

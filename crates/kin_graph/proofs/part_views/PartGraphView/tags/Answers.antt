@@ -5,7 +5,7 @@ use Rattle.kin_ids.specs.Users.{same_tag}
 use Rattle.kin_graph.specs.State.{PartState, view_of}
 use Rattle.kin_graph.specs.Views.{is_in_use}
 use Rattle.kin_graph.proofs.Stores.{tags-kept}
-use Rattle.kin_graph.proofs.part_graphs.PartGraphView.tags.Goals as goal
+use Rattle.kin_graph.proofs.part_views.PartGraphView.tags.Goals as goal
 
 pub returns-clause-in_use : goal.returns-clause-in_use
 returns-clause-in_use c =

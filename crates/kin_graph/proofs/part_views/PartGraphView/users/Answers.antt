@@ -6,7 +6,7 @@ use Rattle.kin_graph.specs.Rows.{is_apart}
 use Rattle.kin_graph.specs.State.{PartState, view_of}
 use Rattle.kin_graph.specs.Views.{is_vertex}
 use Rattle.kin_graph.proofs.Stores.{sorted-kept, vertices-kept}
-use Rattle.kin_graph.proofs.part_graphs.PartGraphView.users.Goals as goal
+use Rattle.kin_graph.proofs.part_views.PartGraphView.users.Goals as goal
 
 pub returns-clause-ascend : goal.returns-clause-ascend
 returns-clause-ascend c =
