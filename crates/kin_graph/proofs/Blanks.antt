@@ -88,7 +88,7 @@ applied_implied at r (op.MentionIn w u) =
 applied_implied at r (op.Said w) = right (is_apart r) (r.said + 1 == 0) (r.said == 0) (λ e. absurd (grind (arith, nat_tests, e)))
 applied_implied at r (op.Use u t) =
     left _ _ _ (right ((is_none r.out && is_none r.inn) && (is_none r.mentions && is_none r.mentioners)) (is_none (with_first t at r.uses)) (is_none r.uses)
-        (new_implied (list_any (λ (x : Use). same_tag t x.tag) r.uses) r.uses (record { tag = t; first = at })))
+    (new_implied (list_any (λ (x : Use). same_tag t x.tag) r.uses) r.uses (record { tag = t; first = at })))
 applied_implied at r (op.TagUse t u) = λ e. e
 
 pub blank-applied : (at : Place) (r : UserRow) (o : Op) → is_blank r ≡ false → is_blank (row_applied at r o) ≡ false

@@ -48,3 +48,14 @@ undone (op.MentionIn w u) c k = with_row k w (row_undone (op.MentionIn w u) c (k
 undone (op.Said w) c k = with_row k w (row_undone (op.Said w) c (k.row w))
 undone (op.Use u t) c k = with_row k u (row_undone (op.Use u t) c (k.row u))
 undone (op.TagUse t u) c k = with_users k t (taken_back c (k.users t))
+
+-- numbered operations of a node in an epoch, in turn
+abbrev pub done_all : ℕ → ℕ → Kept → List Numbered → Kept
+done_all e i k [] = k
+done_all e i k (x ∷ xs) = done_all e i (done (record { epoch = record { 0 = e }; ingest = record { 0 = i }; number = x.number }) k x.op) xs
+
+-- what was there before operations that made these changes, the last ones taken back first
+abbrev pub undone_all : List Numbered → List Change → Kept → Kept
+undone_all [] cs k = k
+undone_all (x ∷ xs) [] k = k
+undone_all (x ∷ xs) (c ∷ cs) k = undone x.op c (undone_all xs cs k)

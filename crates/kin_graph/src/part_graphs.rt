@@ -1,18 +1,18 @@
 //! The store of one partition.
 
-ghost use Rattle.std.specs.Prelude.{◌≡◌, ◌<◌, ◌^◌, IfOk, OnOk, OnErr};
+ghost use Rattle.std.specs.Prelude.{◌≡◌, ◌<◌, ◌≤◌, ◌^◌, [], IfOk, OnOk, OnErr, All, length, vec_capacity};
 ghost use Rattle.kin_ids.specs.declared.ids.User.{User};
 ghost use Rattle.kin_ids.specs.Parting.{tag_part, user_part};
 ghost use Rattle.kin_ids.specs.Operations.{op_part};
 ghost use Rattle.kin_ids.specs.Parts.{with_member};
 ghost use Rattle.kin_graph.specs.Lists.{taken_back};
 ghost use Rattle.kin_graph.specs.Rows.{row_applied, row_undone};
-ghost use Rattle.kin_graph.specs.State.{empty_part, row_of, users_of};
-ghost use Rattle.kin_graph.specs.Changes.{done, kept, undone, with_row, with_users};
+ghost use Rattle.kin_graph.specs.State.{after, empty_part, row_of, users_of, view_of, TakesPart};
+ghost use Rattle.kin_graph.specs.Changes.{done, done_all, kept, undone, undone_all, with_row, with_users};
 
 use crate::changes::Change;
 use crate::rows::{Row, Users};
-use kin_ids::{Memory, Op, PartId, Place, Tag, User};
+use kin_ids::{Epoch, IngestId, Memory, Numbered, Op, PartId, Piece, Place, Tag, User};
 use std::alloc::Global;
 use std::collections::BTreeMap;
 use std::marker::Model;
@@ -63,6 +63,68 @@ impl PartGraph {
             rows: self.rows.clone()?,
             tags: self.tags.clone()?,
         })
+    }
+
+    /// Applies a piece of an epoch. O(log n) per operation: in the rows, and in the items of a row. After `Memory` what was
+    /// done is taken back, operation by operation.
+    pub fn apply(&mut self, epoch: Epoch, piece: &Piece) -> Result<(), Memory>
+        requires part { piece.now.part.0 ≡ self.old.part }
+        requires home { All (λ x. op_part self.old.parts x.op ≡ self.old.part) piece.now.ops }
+        requires said { (u : User) → (after epoch.0 piece.now (view_of self.old)).said u < 2 ^ 64 }
+        ensures ok { OnOk result (view_of self.new ≡ after epoch.0 piece.now (view_of self.old)) }
+        ensures whole { OnOk result (TakesPart epoch.0 piece.now self.old self.new) }
+        ensures same { (self.new.part ≡ self.old.part) × (self.new.parts ≡ self.old.parts) }
+        ensures err { OnErr result (self.new ≡ self.old) }
+    {
+        let ops = piece.ops.as_slice();
+        let mut changes = Vec::with_capacity(self.alloc, ops.len())?;
+        let Ok(()) = self.apply_all(epoch, piece.stamp.ingest, ops, &mut changes) else {
+            self.take_back_all(ops, &changes);
+            // For the proof: a field that is read tells the store's invariant.
+            let _ = &self.rows;
+            return Err(Memory);
+        };
+        Ok(())
+    }
+
+    // Does what the operations say, and notes what each changed. At `Err` some of them are done.
+    fn apply_all(
+        &mut self,
+        epoch: Epoch,
+        ingest: IngestId,
+        ops: &[Numbered],
+        changes: &mut Vec<Change>,
+    ) -> Result<(), Memory>
+        requires home { All (λ x. op_part self.old.parts x.op ≡ self.old.part) ops.now }
+        requires said { (u : User) → ((done_all epoch.0 ingest.0 (kept self.old) ops.now).row u).said < 2 ^ 64 }
+        requires empty { changes.old.items ≡ [] }
+        requires room { length ops.now ≤ vec_capacity changes.old }
+        ensures ok { OnOk result (kept self.new ≡ done_all epoch.0 ingest.0 (kept self.old) ops.now) }
+        ensures back { undone_all ops.now changes.new.items (kept self.new) ≡ kept self.old }
+        ensures few { length changes.new.items ≤ length ops.now }
+        ensures same { (self.new.part ≡ self.old.part) × (self.new.parts ≡ self.old.parts) }
+    {
+        for numbered in ops {
+            let place = Place {
+                epoch,
+                ingest,
+                number: numbered.number,
+            };
+            let change = self.apply_op(place, &numbered.op)?;
+            changes.push_reserved(change);
+        }
+        Ok(())
+    }
+
+    // Takes back what the first operations changed, the last one first.
+    fn take_back_all(&mut self, ops: &[Numbered], changes: &[Change])
+        requires { length changes.now ≤ length ops.now }
+        ensures ok { kept self.new ≡ undone_all ops.now changes.now (kept self.old) }
+        ensures same { (self.new.part ≡ self.old.part) × (self.new.parts ≡ self.old.parts) }
+    {
+        for i in (0..changes.len()).rev() {
+            self.take_back(&ops[i].op, changes[i]);
+        }
     }
 
     // Does what an operation of this partition says.

@@ -25,8 +25,8 @@ invariant_of-self c =
     let home = subst (λ (t : PartState). tag_part t.parts c.args.tag ≡ t.part) (sym c.self.view_is) c.requires.home in
     let some : is_none c.in-Some.users.now ≡ false = (c.self.invariant.tags c.args.tag c.in-Some.users.now (sym c.in-Some.ensures.value)).1 in
     let kept : is_none new ≡ false = either-result (is_none new ≡ false) _ _ c.put.result c.put.ensures.ok c.put.ensures.err
-        (λ (e : new ≡ with_member c.args.user c.in-Some.users.now). rw e (with_member-some c.args.user c.in-Some.users.now))
-        (λ (e : new ≡ c.in-Some.users.now). rw e some) in
+    (λ (e : new ≡ with_member c.args.user c.in-Some.users.now). rw e (with_member-some c.args.user c.in-Some.users.now))
+    (λ (e : new ≡ c.in-Some.users.now). rw e some) in
     store-users s (c.get_mut.follows.lender new).entries c.args.tag (Some new) ((w.3 there).0) c.self.invariant w.4
     (λ us e. let same : new ≡ us = cc in (home, rw (← same) kept))
 
@@ -40,7 +40,7 @@ returns-in-Some-clause-ok c =
     let P : PartState → Type 0 = λ t. kept (record s { tags = tags }) ≡ with_users (kept t) c.args.tag (with_member c.args.user (users_of t c.args.tag)) in
     on_ok_weaker c.put.result
     (λ (e : new ≡ with_member c.args.user c.in-Some.users.now). subst P c.self.view_is (kept-users s tags c.args.tag (Some new) ((w.3 there).0) _
-        (e ∙ ap (λ (us : List User). with_member c.args.user us) (sym (users-found s c.args.tag c.in-Some.users.now c.in-Some.ensures.value)))))
+    (e ∙ ap (λ (us : List User). with_member c.args.user us) (sym (users-found s c.args.tag c.in-Some.users.now c.in-Some.ensures.value)))))
     c.put.ensures.ok
 
 pub returns-in-Some-clause-back : goal.returns-in-Some-clause-back
@@ -49,8 +49,8 @@ returns-in-Some-clause-back c =
     let old : users_of s c.args.tag ≡ c.in-Some.users.now = users-found s c.args.tag c.in-Some.users.now c.in-Some.ensures.value in
     let P : PartState → Change → Type 0 = λ t d. taken_back d (with_member c.args.user (users_of t c.args.tag)) ≡ users_of t c.args.tag in
     subst (λ (t : PartState). IfOk c.put.result (P t)) c.self.view_is (if-ok-both c.put.result _ _ (P s)
-        (λ (d : Change) (e : c.put.new.self ≡ with_member c.args.user c.in-Some.users.now) (f : taken_back d c.put.new.self ≡ c.in-Some.users.now). rw (old, ← e) f)
-        c.put.ensures.ok c.put.ensures.back)
+    (λ (d : Change) (e : c.put.new.self ≡ with_member c.args.user c.in-Some.users.now) (f : taken_back d c.put.new.self ≡ c.in-Some.users.now). rw (old, ← e) f)
+    c.put.ensures.ok c.put.ensures.back)
 
 pub returns-in-Some-clause-err : goal.returns-in-Some-clause-err
 returns-in-Some-clause-err c =
@@ -59,7 +59,7 @@ returns-in-Some-clause-err c =
     let w = c.get_mut.follows.holds new in
     on_err_weaker c.put.result
     (λ (e : new ≡ c.in-Some.users.now). ap (λ (tags : List (List ℕ × List User)). record s { tags = tags })
-        (w.0 ∙ rw e (set_value_same (same_tag c.args.tag) s.tags c.in-Some.users.now (sym c.in-Some.ensures.value))) ∙ c.self.view_is)
+    (w.0 ∙ rw e (set_value_same (same_tag c.args.tag) s.tags c.in-Some.users.now (sym c.in-Some.ensures.value))) ∙ c.self.view_is)
     c.put.ensures.err
 
 pub invariant_of-self-2 : goal.invariant_of-self-2

@@ -29,7 +29,7 @@ returns-in-TagUse-clause-back c =
     let us : List User = with_member c.in-TagUse.user (users_of c.args.self.now t) in
     if-ok-both c.add_tag_user.result _ _ (λ (d : Change). undone c.args.op.now d (kept c.add_tag_user.new.self) ≡ k)
     (λ (d : Change) (e : kept c.add_tag_user.new.self ≡ with_users k t us) (f : taken_back d us ≡ users_of c.args.self.now t).
-        rw c.in-TagUse.is (undone-tag d k (kept c.add_tag_user.new.self) t c.in-TagUse.user us e f))
+    rw c.in-TagUse.is (undone-tag d k (kept c.add_tag_user.new.self) t c.in-TagUse.user us e f))
     c.add_tag_user.ensures.ok c.add_tag_user.ensures.back
 
 pub returns-in-AddOut-clause-ok : goal.returns-in-AddOut-clause-ok
@@ -38,7 +38,7 @@ returns-in-AddOut-clause-ok c =
     let k = kept c.args.self.now in
     on_ok_weaker c.apply_to_user.result
     (λ (e : kept c.apply_to_user.new.self ≡ with_row k u (row_applied c.args.place (row_of c.args.self.now u) c.args.op.now)).
-        e ∙ sym (done-owner c.args.place k u c.args.op.now c.in-AddOut.is))
+    e ∙ sym (done-owner c.args.place k u c.args.op.now c.in-AddOut.is))
     c.apply_to_user.ensures.ok
 
 pub returns-in-AddOut-clause-back : goal.returns-in-AddOut-clause-back
@@ -48,5 +48,5 @@ returns-in-AddOut-clause-back c =
     let r : UserRow = row_applied c.args.place (row_of c.args.self.now u) c.args.op.now in
     if-ok-both c.apply_to_user.result _ _ (λ (d : Change). undone c.args.op.now d (kept c.apply_to_user.new.self) ≡ k)
     (λ (d : Change) (e : kept c.apply_to_user.new.self ≡ with_row k u r) (f : row_undone c.args.op.now d r ≡ row_of c.args.self.now u).
-        undone-done d k (kept c.apply_to_user.new.self) u c.args.op.now r c.in-AddOut.is e f)
+    undone-done d k (kept c.apply_to_user.new.self) u c.args.op.now r c.in-AddOut.is e f)
     c.apply_to_user.ensures.ok c.apply_to_user.ensures.back

@@ -29,8 +29,8 @@ invariant_of-self c =
     let home = subst (λ (t : PartState). user_part t.parts c.args.user ≡ t.part) (sym c.self.view_is) c.requires.home in
     let some : is_blank c.in-Some.row.now ≡ false = (c.self.invariant.rows c.args.user c.in-Some.row.now (sym c.in-Some.ensures.value)).1 in
     let kept : is_blank new ≡ false = either-result (is_blank new ≡ false) _ _ c.apply.result c.apply.ensures.ok c.apply.ensures.err
-        (λ (e : new ≡ row_applied c.args.place c.in-Some.row.now c.args.op.now). rw e (blank-applied c.args.place c.in-Some.row.now c.args.op.now some))
-        (λ (e : new ≡ c.in-Some.row.now). rw e some) in
+    (λ (e : new ≡ row_applied c.args.place c.in-Some.row.now c.args.op.now). rw e (blank-applied c.args.place c.in-Some.row.now c.args.op.now some))
+    (λ (e : new ≡ c.in-Some.row.now). rw e some) in
     store-row s (c.get_mut.follows.lender new).entries c.args.user (Some new) ((w.3 there).0) c.self.invariant w.4
     (λ r e. let same : new ≡ r = cc in (home, rw (← same) kept))
 
@@ -44,7 +44,7 @@ returns-in-Some-clause-ok c =
     let P : PartState → Type 0 = λ t. kept (record s { rows = rows }) ≡ with_row (kept t) c.args.user (row_applied c.args.place (row_of t c.args.user) c.args.op.now) in
     on_ok_weaker c.apply.result
     (λ (e : new ≡ row_applied c.args.place c.in-Some.row.now c.args.op.now). subst P c.self.view_is (kept-row s rows c.args.user (Some new) ((w.3 there).0) _
-        (e ∙ ap (λ (r : UserRow). row_applied c.args.place r c.args.op.now) (sym (row-found s c.args.user c.in-Some.row.now c.in-Some.ensures.value)))))
+    (e ∙ ap (λ (r : UserRow). row_applied c.args.place r c.args.op.now) (sym (row-found s c.args.user c.in-Some.row.now c.in-Some.ensures.value)))))
     c.apply.ensures.ok
 
 pub returns-in-Some-clause-back : goal.returns-in-Some-clause-back
@@ -53,9 +53,9 @@ returns-in-Some-clause-back c =
     let old : row_of s c.args.user ≡ c.in-Some.row.now = row-found s c.args.user c.in-Some.row.now c.in-Some.ensures.value in
     let P : PartState → Change → Type 0 = λ t d. row_undone c.args.op.now d (row_applied c.args.place (row_of t c.args.user) c.args.op.now) ≡ row_of t c.args.user in
     subst (λ (t : PartState). IfOk c.apply.result (P t)) c.self.view_is (if-ok-both c.apply.result _ _ (P s)
-        (λ (d : Change) (e : c.apply.new.self ≡ row_applied c.args.place c.in-Some.row.now c.args.op.now) (f : row_undone c.args.op.now d c.apply.new.self ≡ c.in-Some.row.now).
-            rw (old, ← e) f)
-        c.apply.ensures.ok c.apply.ensures.back)
+    (λ (d : Change) (e : c.apply.new.self ≡ row_applied c.args.place c.in-Some.row.now c.args.op.now) (f : row_undone c.args.op.now d c.apply.new.self ≡ c.in-Some.row.now).
+    rw (old, ← e) f)
+    c.apply.ensures.ok c.apply.ensures.back)
 
 pub returns-in-Some-clause-err : goal.returns-in-Some-clause-err
 returns-in-Some-clause-err c =
@@ -64,7 +64,7 @@ returns-in-Some-clause-err c =
     let w = c.get_mut.follows.holds new in
     on_err_weaker c.apply.result
     (λ (e : new ≡ c.in-Some.row.now). ap (λ (rows : List (User × UserRow)). record s { rows = rows })
-        (w.0 ∙ rw e (set_value_same (same_user c.args.user) s.rows c.in-Some.row.now (sym c.in-Some.ensures.value))) ∙ c.self.view_is)
+    (w.0 ∙ rw e (set_value_same (same_user c.args.user) s.rows c.in-Some.row.now (sym c.in-Some.ensures.value))) ∙ c.self.view_is)
     c.apply.ensures.err
 
 pub returns-then-is_blank-clause-ok : goal.returns-then-is_blank-clause-ok
@@ -73,7 +73,7 @@ returns-then-is_blank-clause-ok c =
     let none : row_of s c.args.user ≡ no_row = row-none s c.args.user c.in_default.ensures.value in
     let blank : is_blank c.apply-2.new.self ≡ true = search rules in
     let new : row_applied c.args.place (row_of s c.args.user) c.args.op.now ≡ no_row =
-        rw (none, ← c.new-row.ensures) (sym c.in_ok-change.ensures.ok ∙ (blank-none c.apply-2.new.self blank ∙ sym c.new-row.ensures)) in
+    rw (none, ← c.new-row.ensures) (sym c.in_ok-change.ensures.ok ∙ (blank-none c.apply-2.new.self blank ∙ sym c.new-row.ensures)) in
     let P : PartState → Type 0 = λ t. kept s ≡ with_row (kept t) c.args.user (row_applied c.args.place (row_of t c.args.user) c.args.op.now) in
     rw c.get_mut.follows.holds-at-none (subst P c.self.view_is (kept-same-row s c.args.user _ (none ∙ sym new)))
 

@@ -49,8 +49,8 @@ returns-then-is_blank-clause-ok c =
     let there : IsSome (lookup (same_user c.args.user) s.rows) = rw (← c.in-Some.ensures.value) refl in
     let puts = put-put user_cmp s.rows (c.get_mut.follows.lender new).entries rows c.args.user (Some new) None ((w.3 there).0) c.remove.ensures.updates.0 in
     let undone : row_undone c.args.op.now c.args.change (row_of s c.args.user) ≡ no_row =
-        ap (λ (r : UserRow). row_undone c.args.op.now c.args.change r) (row-found s c.args.user c.in-Some.row.now c.in-Some.ensures.value)
-        ∙ (sym c.take_back.ensures ∙ blank-none new (sym c.if-is_blank.ensures)) in
+    ap (λ (r : UserRow). row_undone c.args.op.now c.args.change r) (row-found s c.args.user c.in-Some.row.now c.in-Some.ensures.value)
+    ∙ (sym c.take_back.ensures ∙ blank-none new (sym c.if-is_blank.ensures)) in
     let is : c.match-remove.self ≡ record s { rows = rows } = elim c.match-remove.branch [ in-Some-1 w ↦ w.self-is | in-None-1 w ↦ w.self-is ] in
     let P : PartState → Type 0 = λ t. kept (record s { rows = rows }) ≡ with_row (kept t) c.args.user (row_undone c.args.op.now c.args.change (row_of t c.args.user)) in
     rw is (subst P c.self.view_is (kept-row s rows c.args.user None puts _ (sym undone)))
@@ -64,4 +64,4 @@ returns-else-is_blank-clause-ok c =
     let there : IsSome (lookup (same_user c.args.user) s.rows) = rw (← c.in-Some.ensures.value) refl in
     let P : PartState → Type 0 = λ t. kept (record s { rows = rows }) ≡ with_row (kept t) c.args.user (row_undone c.args.op.now c.args.change (row_of t c.args.user)) in
     subst P c.self.view_is (kept-row s rows c.args.user (Some new) ((w.3 there).0) _
-        (c.take_back.ensures ∙ ap (λ (r : UserRow). row_undone c.args.op.now c.args.change r) (sym (row-found s c.args.user c.in-Some.row.now c.in-Some.ensures.value))))
+    (c.take_back.ensures ∙ ap (λ (r : UserRow). row_undone c.args.op.now c.args.change r) (sym (row-found s c.args.user c.in-Some.row.now c.in-Some.ensures.value))))

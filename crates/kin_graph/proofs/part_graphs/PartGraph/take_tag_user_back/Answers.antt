@@ -51,7 +51,7 @@ returns-then-is_empty-clause-ok c =
     let puts = put-put tag_cmp s.tags (c.get_mut.follows.lender new).entries tags c.args.tag (Some new) None ((w.3 there).0) c.remove.ensures.updates.0 in
     let none : is_none new ≡ true = search rules in
     let back : taken_back c.args.change (users_of s c.args.tag) ≡ [] =
-        ap (λ (us : List User). taken_back c.args.change us) (users-found s c.args.tag c.in-Some.users.now c.in-Some.ensures.value) ∙ (sym c.take_back.ensures ∙ none-nil new none) in
+    ap (λ (us : List User). taken_back c.args.change us) (users-found s c.args.tag c.in-Some.users.now c.in-Some.ensures.value) ∙ (sym c.take_back.ensures ∙ none-nil new none) in
     let is : c.match-remove.self ≡ record s { tags = tags } = elim c.match-remove.branch [ in-Some-1 w ↦ w.self-is | in-None-1 w ↦ w.self-is ] in
     let P : PartState → Type 0 = λ t. kept (record s { tags = tags }) ≡ with_users (kept t) c.args.tag (taken_back c.args.change (users_of t c.args.tag)) in
     rw is (subst P c.self.view_is (kept-users s tags c.args.tag None puts _ (sym back)))
@@ -65,4 +65,4 @@ returns-else-is_empty-clause-ok c =
     let there : IsSome (lookup (same_tag c.args.tag) s.tags) = rw (← c.in-Some.ensures.value) refl in
     let P : PartState → Type 0 = λ t. kept (record s { tags = tags }) ≡ with_users (kept t) c.args.tag (taken_back c.args.change (users_of t c.args.tag)) in
     subst P c.self.view_is (kept-users s tags c.args.tag (Some new) ((w.3 there).0) _
-        (c.take_back.ensures ∙ ap (λ (us : List User). taken_back c.args.change us) (sym (users-found s c.args.tag c.in-Some.users.now c.in-Some.ensures.value))))
+    (c.take_back.ensures ∙ ap (λ (us : List User). taken_back c.args.change us) (sym (users-found s c.args.tag c.in-Some.users.now c.in-Some.ensures.value))))
