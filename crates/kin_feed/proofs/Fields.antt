@@ -38,6 +38,9 @@ no_third (x ∷ []) e = refl
 no_third (x ∷ y ∷ []) e = refl
 no_third (x ∷ y ∷ z ∷ r) e = cc
 
+-- what the fields at their places say of the pair
+pub ruleset pair_lemmas = (pair_at, no_pair, no_second, no_third)
+
 -- a field below the row's length is there
 pub no_field : (fs : List (List ℕ)) (i : ℕ) → None ≡ field_at fs i → i < length fs → ⊥
 unfolding field_at

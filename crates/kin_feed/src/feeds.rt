@@ -66,7 +66,8 @@ impl Feed {
     }
 }
 
-/// Reads the records of a feed, at most `limit` of them, in time linear in its bytes. It reads no row past the first one too many.
+/// Reads the records of a feed, at most `limit` of them, in time linear in its bytes. It reads no
+/// row past the first one too many.
 pub fn read_feed(alloc: Global, bytes: &[u8], limit: u64) -> Result<Feed, FeedFault>
     ensures ok { IfOk result (λ feed. feed ≡ records_of bytes.now) }
     ensures within { OnOk result (length (records_of bytes.now) ≤ limit) }

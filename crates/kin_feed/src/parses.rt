@@ -51,7 +51,7 @@ fn unfollow(pair: Option<(User, User)>) -> Record
 }
 
 // Two users who are not the same, where they are all that follows the first field.
-#[tactic(auto, using(crate::proofs::Fields::pair_at, crate::proofs::Fields::no_pair, crate::proofs::Fields::no_second, crate::proofs::Fields::no_third))]
+#[tactic(auto, using(crate::proofs::Fields::pair_lemmas))]
 fn read_pair(row: &ByteRecord) -> Option<(User, User)>
     ensures { result ≡ pair_of (drop 1 (fields_of row.now)) }
 {

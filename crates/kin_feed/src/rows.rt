@@ -20,7 +20,8 @@ pub fn rows_in(alloc: Global, bytes: &[u8]) -> Reader<&[u8]>
 
 /// Reads the next row, and answers whether there was one. Bytes in memory fail only for want of memory.
 pub fn next_row(reader: &mut Reader<&[u8]>, row: &mut ByteRecord) -> Result<bool, Memory>
-    ensures { IfOk result (λ found. (bytes : List ℕ) (rows : List (List (List ℕ))) → HasRead bytes rows reader.old → ReadsOn found bytes rows (fields_of row.new) reader.new) }
+    ensures { IfOk result (λ found. (bytes : List ℕ) (rows : List (List (List ℕ)))
+        → HasRead bytes rows reader.old → ReadsOn found bytes rows (fields_of row.new) reader.new) }
 {
     let Ok(found) = reader.read_byte_record(row) else {
         return Err(Memory);

@@ -63,6 +63,15 @@ ended false false (Some b) = refl
 sum_is_zero : (m n : ℕ) → ((m + n) == 0) ≡ ((m == 0) && (n == 0))
 sum_is_zero m n = grind (arith, nat_tests)
 
+-- a flush ends what the bytes before it left
+pub flush_after : (n : ℕ) (a b c : Option Bool) → b ≡ flushed_after n a → c ≡ option_map (λ _. true) b → c ≡ option_map (λ _. true) a
+flush_after n a b c p q = q ∙ ap (option_map (λ _. true)) p ∙ either (n == 0) a
+  where
+    either : (z : Bool) (o : Option Bool) → option_map (λ _. true) (if z then o else no_longer o) ≡ option_map (λ _. true) o
+    either true o = refl
+    either false None = refl
+    either false (Some f) = refl
+
 -- first m bytes and then n more are m + n bytes
 pub flushed_more : (m n : ℕ) (a b c : Option Bool) → b ≡ flushed_after m a → c ≡ flushed_after n b → c ≡ flushed_after (m + n) a
 flushed_more m n a b c p q = q ∙ ap (flushed_after n) p ∙ ended (m == 0) (n == 0) a ∙ ap (λ (z : Bool). if z then a else no_longer a) (sym (sum_is_zero m n))

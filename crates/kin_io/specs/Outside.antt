@@ -21,7 +21,7 @@ flushed_after n was = if n == 0 then was else option_map (λ _. false) was
 abbrev pub FlushedAfterSome : Option Bool → Option Bool → List ℕ → Type 0
 FlushedAfterSome was now bytes = (n : ℕ) × (n ≤ length bytes) × (now ≡ flushed_after n was)
 
--- a count of faults rose; one that stands at 2^64 - 1 counts as risen
+-- a count of faults rose: by one at least, or it stands at 2^64 - 1
 abbrev pub Rose : ℕ → ℕ → Type 0
 Rose before now = min (before + 1) (2 ^ 64 - 1) ≤ now
 
@@ -30,11 +30,11 @@ pub record HasCause {T E : Type 0} (before now : ℕ) (result : Result T E) : Ty
   pub later : before ≤ now
   pub failed : OnErr result (Rose before now)
 
--- the front of the buffer has n bytes of the file from a place on, and n is 0 only at the file's end or with an empty buffer
+-- the front of the buffer has n bytes of the file from a place on; where the buffer isn't empty, n is 0 exactly at the file's end
 abbrev pub ReadsFile : List ℕ → ℕ → ℕ → List ℕ → List ℕ → Type 0
 ReadsFile file at n old new = (new ≡ take n (drop at file) ++ drop n old) × (0 < length old → (n ≡ 0) ↔ (length file ≤ at))
 
--- the same, where the shelf tells the bytes
+-- at most the buffer is filled, and so with bytes of the file, where the shelf tells them
 abbrev pub ReadsAt : Option (List ℕ) → ℕ → ℕ → List ℕ → List ℕ → Type 0
 ReadsAt content at n old new = (n ≤ length old) × IfSome content (λ file. ReadsFile file at n old new)
 

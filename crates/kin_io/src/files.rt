@@ -8,8 +8,8 @@ use std::io::{Read, Seek, SeekFrom};
 use std::rt::Files;
 use std::{fs, io};
 
-/// The files of the system. It tells nothing of their bytes, and its one count of faults stands for every name.
-/// Each read opens the file and seeks, so reads should be large.
+/// The files of the system. It tells nothing of their bytes, and its one count of faults stands
+/// for every name. Each read opens the file and seeks, so reads should be large.
 #[derive(Drop)]
 pub struct FileShelf<'a, R> {
     rt: &'a R,

@@ -29,17 +29,21 @@ fn buffer(alloc: Global, size: usize) -> Result<Vec<u8>, Memory>
     Ok(vec![in alloc; 0; size]?)
 }
 
-/// Reads a whole file of at most `limit` bytes, in time linear in its bytes. Each turn takes a byte or ends, and in all no more than `limit` + 1 bytes are taken.
+/// Reads a whole file of at most `limit` bytes, in time linear in its bytes. Each turn takes a byte
+/// or ends, and in all no more than `limit` + 1 bytes are taken. After a fault no byte is handed out.
 pub fn load<F: Shelf>(
     alloc: Global,
     shelf: &mut F,
     name: &str,
     limit: u64,
 ) -> Result<Vec<u8>, LoadFault>
-    ensures whole { IfOk result (λ bytes. IfSome (F.content shelf.old name.now) (λ file. bytes.items ≡ file)) }
+    ensures whole { IfOk result (λ bytes.
+        IfSome (F.content shelf.old name.now) (λ file. bytes.items ≡ file)) }
     ensures within { IfOk result (λ bytes. length bytes.items ≤ limit) }
-    ensures read { IsErrOf result LoadFault.Read → Rose (F.faults shelf.old name.now) (F.faults shelf.new name.now) }
-    ensures limit { IsErrOf result LoadFault.Limit → IfSome (F.content shelf.old name.now) (λ file. limit < length file) }
+    ensures read { IsErrOf result LoadFault.Read
+        → Rose (F.faults shelf.old name.now) (F.faults shelf.new name.now) }
+    ensures limit { IsErrOf result LoadFault.Limit
+        → IfSome (F.content shelf.old name.now) (λ file. limit < length file) }
     ensures content { (n : List ℕ) → F.content shelf.new n ≡ F.content shelf.old n }
     ensures counts { (n : List ℕ) → F.faults shelf.old n ≤ F.faults shelf.new n }
 {

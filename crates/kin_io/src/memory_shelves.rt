@@ -18,7 +18,8 @@ struct StoredFile {
     faults: u64,
 }
 
-/// Files in memory, with reads that fail where they are told to. A look-up takes O(log n) comparisons of names.
+/// Files in memory, with reads that fail where they are told to. A look-up takes O(log n)
+/// comparisons of names.
 #[derive(Drop)]
 pub struct MemShelf {
     files: BTreeMap<String, StoredFile>,
@@ -47,7 +48,8 @@ impl MemShelf {
         }
     }
 
-    /// Adds a file, or replaces its bytes where the name is there. A new name takes over the count of the names that aren't there.
+    /// Adds a file, or replaces its bytes where the name is there. A new name takes over the count
+    /// of the names that aren't there.
     pub fn add(&mut self, name: String, bytes: Vec<u8>) -> Result<(), Memory>
         ensures ok { OnOk result (HasFile (string_bytes name) bytes.items self.old self.new) }
         ensures err { OnErr result (SameBytes self.old self.new) }
@@ -70,7 +72,8 @@ impl MemShelf {
         }
     }
 
-    /// Lets the call of this number fail, besides those that are to fail already. Calls are numbered from 1.
+    /// Lets the read of this number fail, besides those that are to fail already. Reads are
+    /// numbered from 1.
     pub fn fail_at(&mut self, call: u64) -> Result<(), Memory>
         ensures ok { OnOk result (FailsAlso (shelf_plan self.old) (shelf_plan self.new) call) }
         ensures err { OnErr result (SameFailing (shelf_plan self.old) (shelf_plan self.new)) }
@@ -119,11 +122,13 @@ impl Shelf for MemShelf {
         ensures counts { (n : List ℕ) → kept_faults self.old n ≤ kept_faults self.new n }
         ensures cause { HasCause (kept_faults self.old name.now) (kept_faults self.new name.now) result }
         ensures count { IfOk result (GivesWhatFits self.old name.now at (length buf.old)) }
-        ensures fails { is_err result ≡ (fails_next (shelf_plan self.old) || is_none (kept_bytes self.old name.now)) }
+        ensures fails { is_err result
+            ≡ (fails_next (shelf_plan self.old) || is_none (kept_bytes self.old name.now)) }
         ensures made { made (shelf_plan self.new) ≡ one_more (made (shelf_plan self.old)) }
         ensures failing { SameFailing (shelf_plan self.old) (shelf_plan self.new) }
         ensures most { most_bytes self.new ≡ most_bytes self.old }
-        ensures fault { OnErr result (kept_faults self.new name.now ≡ one_more (kept_faults self.old name.now)) }
+        ensures fault { OnErr result
+            (kept_faults self.new name.now ≡ one_more (kept_faults self.old name.now)) }
         ensures no_fault { OnOk result (SameFaults self.old self.new) }
         ensures others { SameFaultsBut name.now self.old self.new }
     {

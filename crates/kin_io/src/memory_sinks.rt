@@ -43,7 +43,8 @@ impl MemSink {
         })
     }
 
-    /// Lets the call of this number fail, besides those that are to fail already. Calls of `put` and `flush` are numbered together, from 1.
+    /// Lets the call of this number fail, besides those that are to fail already. Calls of `put`
+    /// and `flush` are numbered together, from 1.
     pub fn fail_at(&mut self, call: u64) -> Result<(), Memory>
         ensures ok { OnOk result (FailsAlso (sink_plan self.old) (sink_plan self.new) call) }
         ensures err { OnErr result (SameFailing (sink_plan self.old) (sink_plan self.new)) }
@@ -88,13 +89,16 @@ impl Sink for MemSink {
 
     fn put(&mut self, bytes: &[u8]) -> Result<usize, Failed>
         ensures some { IfOk result (λ n. 0 < length bytes.now → 0 < n) }
-        ensures took { IfOk result (GrewBy (Some (taken_bytes self.old)) (Some (taken_bytes self.new)) bytes.now) }
-        ensures unflushes { IfOk result (λ n. Some (has_flushed self.new) ≡ flushed_after n (Some (has_flushed self.old))) }
+        ensures took { IfOk result
+            (GrewBy (Some (taken_bytes self.old)) (Some (taken_bytes self.new)) bytes.now) }
+        ensures unflushes { IfOk result (λ n.
+            Some (has_flushed self.new) ≡ flushed_after n (Some (has_flushed self.old))) }
         ensures failed { OnErr result (Some (taken_bytes self.new) ≡ Some (taken_bytes self.old)) }
         ensures failed_flushed { OnErr result (Some (has_flushed self.new) ≡ Some (has_flushed self.old)) }
         ensures cause { HasCause (sink_faults self.old) (sink_faults self.new) result }
         ensures count { IfOk result (λ n. n ≡ min (length bytes.now) (room_left self.old)) }
-        ensures fails { is_err result ≡ (fails_next (sink_plan self.old) || (nat_lt 0 (length bytes.now) && room_left self.old == 0)) }
+        ensures fails { is_err result ≡ (fails_next (sink_plan self.old)
+            || (nat_lt 0 (length bytes.now) && room_left self.old == 0)) }
         ensures fault { OnErr result (sink_faults self.new ≡ one_more (sink_faults self.old)) }
         ensures no_fault { OnOk result (sink_faults self.new ≡ sink_faults self.old) }
         ensures made { made (sink_plan self.new) ≡ one_more (made (sink_plan self.old)) }
@@ -115,7 +119,8 @@ impl Sink for MemSink {
 
     fn flush(&mut self) -> Result<(), Failed>
         ensures taken { Some (taken_bytes self.new) ≡ Some (taken_bytes self.old) }
-        ensures ok { OnOk result (Some (has_flushed self.new) ≡ option_map (λ _. true) (Some (has_flushed self.old))) }
+        ensures ok { OnOk result
+            (Some (has_flushed self.new) ≡ option_map (λ _. true) (Some (has_flushed self.old))) }
         ensures failed { OnErr result (Some (has_flushed self.new) ≡ Some (has_flushed self.old)) }
         ensures cause { HasCause (sink_faults self.old) (sink_faults self.new) result }
         ensures fails { is_err result ≡ fails_next (sink_plan self.old) }

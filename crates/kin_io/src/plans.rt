@@ -7,7 +7,8 @@ use kin_ids::Memory;
 use std::alloc::Global;
 use std::collections::BTreeSet;
 
-/// Which calls are to fail, and how many were made. Calls are numbered from 1, and the counter stays at 2^64 - 1 once it is there.
+/// Which calls are to fail, and how many were made. Calls are numbered from 1, and the counter
+/// stays at 2^64 - 1 once it is there.
 #[derive(Drop)]
 pub struct CallPlan {
     made: u64,

@@ -13,7 +13,8 @@ pub trait Shelf {
     /// How often a call on a name failed. It never falls, and stands still at 2^64 - 1.
     ghost faults: { Self → List ℕ → ℕ };
 
-    /// Reads bytes of a name from a place on into the front of the buffer, and answers how many: 0 only at the end of the file or with an empty buffer.
+    /// Reads bytes of a name from a place on into the front of the buffer, and answers how many: 0
+    /// only at the end of the file or with an empty buffer.
     fn read_at(&mut self, name: &str, at: u64, buf: &mut [u8]) -> Result<usize, Failed>
         ensures content { (n : List ℕ) → content self.new n ≡ content self.old n }
         ensures reads { IfOk result (λ n. ReadsAt (content self.old name.now) at n buf.old buf.new) }

@@ -36,9 +36,11 @@ pub trait Sink {
 /// Puts all bytes. It takes no memory, and each turn takes a byte or ends.
 pub fn put_all<O: Sink>(sink: &mut O, bytes: &[u8]) -> Result<(), Failed>
     ensures ok { OnOk result (Grew (O.taken sink.old) (O.taken sink.new) bytes.now) }
-    ensures ok_flushed { OnOk result (O.flushed sink.new ≡ flushed_after (length bytes.now) (O.flushed sink.old)) }
+    ensures ok_flushed { OnOk result
+        (O.flushed sink.new ≡ flushed_after (length bytes.now) (O.flushed sink.old)) }
     ensures err { OnErr result (GrewBySome (O.taken sink.old) (O.taken sink.new) bytes.now) }
-    ensures err_flushed { OnErr result (FlushedAfterSome (O.flushed sink.old) (O.flushed sink.new) bytes.now) }
+    ensures err_flushed { OnErr result
+        (FlushedAfterSome (O.flushed sink.old) (O.flushed sink.new) bytes.now) }
     ensures cause { HasCause (O.faults sink.old) (O.faults sink.new) result }
 {
     let mut at = 0;
