@@ -6,3 +6,4 @@ pub mod Undoing
 pub mod Batches
 pub mod Parted
 pub mod Same
+pub mod Fitting

@@ -15,7 +15,7 @@ use Rattle.std.specs.BTreeMap.{is_at}
 use Rattle.std.specs.declared.cmp.Ordering.{Ordering}
 use Rattle.std.specs.declared.cmp.Ordering.TheVariants.{Equal}
 use Rattle.kin_graph.specs.declared.changes.Change.TheVariants as change
-use Rattle.kin_graph.specs.Lists.{place_of, stands, with_new, change_of_put, taken_back, front, IsOnce, IsIndex, IsFirstAdded}
+use Rattle.kin_graph.specs.Lists.{few, place_of, stands, with_new, change_of_put, taken_back, front, IsOnce, IsIndex, IsFirstAdded}
 
 abbrev pub or_else : Option ℕ → Option ℕ → Option ℕ
 or_else None o = o
@@ -159,16 +159,16 @@ module _ {K T : Type 0} {cmp : K → K → Ordering} (o : IsTotalOrder cmp) (key
       beside : (j ≡ i → ⊥) → place_of cmp key (key (get_or (set xs i y) j d)) xs ≡ Some j
       beside apart = rw (get_or-set_other xs i j y d apart) (once j d inside)
 
-    pub first-set : (few : ℕ) (places : List (K × ℕ)) → IsFirstAdded cmp key few xs places → IsFirstAdded cmp key few (set xs i y) places
-    first-set few places a = record {
+    pub first-set : (places : List (K × ℕ)) → IsFirstAdded cmp key xs places → IsFirstAdded cmp key (set xs i y) places
+    first-set places a = record {
       once = once-set a.once;
       found = ⊎_elim (λ (index : IsIndex cmp key xs places). inl (λ k. index k ∙ sym (place-set k)))
           (λ (none : (places ≡ []) × (length xs ≤ few)). inr (none.0, omega (arith, length-set {A = T} xs i y, none.1))) a.found;
     }
 
-  pub first-front : (few : ℕ) (xs : List T) (y : T) (places less : List (K × ℕ)) → IsFirstAdded cmp key few (xs ++ y ∷ []) places → less ≡ remove_entry (is_at (cmp (key y))) places
-      → ((k : K) → lookup (is_at (cmp k)) less ≡ cond (is_at (cmp (key y)) k) None (lookup (is_at (cmp k)) places)) → IsFirstAdded cmp key few xs less
-  first-front few xs y places less a gone takes = record {
+  pub first-front : (xs : List T) (y : T) (places less : List (K × ℕ)) → IsFirstAdded cmp key (xs ++ y ∷ []) places → less ≡ remove_entry (is_at (cmp (key y))) places
+      → ((k : K) → lookup (is_at (cmp k)) less ≡ cond (is_at (cmp (key y)) k) None (lookup (is_at (cmp k)) places)) → IsFirstAdded cmp key xs less
+  first-front xs y places less a gone takes = record {
     once = once-front xs y a.once;
     found = ⊎_elim (λ (index : IsIndex cmp key (xs ++ y ∷ []) places). inl (index-front xs y places less a.once index takes))
         (λ (none : (places ≡ []) × (length (xs ++ y ∷ []) ≤ few)). inr (gone ∙ rw none.0 refl, omega (arith, length-append xs (y ∷ []), none.1))) a.found;
@@ -181,25 +181,25 @@ module _ {K T : Type 0} {cmp : K → K → Ordering} (o : IsTotalOrder cmp) (key
       let long : length (take i xs) ≡ i = omega (arith, length-take i xs, within) in
       position-front (λ y. is_at (cmp (key x)) (key y)) (take i xs) (drop i xs) (rw (split, long, at) (once i x within))
 
-  pub first-push-few : (few : ℕ) (xs : List T) (y : T) (places : List (K × ℕ)) → IsFirstAdded cmp key few xs places → place_of cmp key (key y) xs ≡ None → length places ≡ 0 → length xs < few
-      → IsFirstAdded cmp key few (xs ++ y ∷ []) places
-  first-push-few few xs y places a new empty short =
+  pub first-push-few : (xs : List T) (y : T) (places : List (K × ℕ)) → IsFirstAdded cmp key xs places → place_of cmp key (key y) xs ≡ None → length places ≡ 0 → length xs < few
+      → IsFirstAdded cmp key (xs ++ y ∷ []) places
+  first-push-few xs y places a new empty short =
       record { once = once-push xs y a.once new; found = inr (nil_from_length places empty, omega (arith, length-append xs (y ∷ []), short)) }
 
-  pub first-push : (few : ℕ) (xs : List T) (y : T) (places more : List (K × ℕ)) (j : K) (n : ℕ) → j ≡ key y → n ≡ length xs → IsOnce cmp key xs → place_of cmp key (key y) xs ≡ None
-      → IsIndex cmp key xs places → ((k : K) → lookup (is_at (cmp k)) more ≡ cond (is_at (cmp j) k) (Some n) (lookup (is_at (cmp k)) places)) → IsFirstAdded cmp key few (xs ++ y ∷ []) more
-  first-push few xs y places more j n same long once new index puts =
+  pub first-push : (xs : List T) (y : T) (places more : List (K × ℕ)) (j : K) (n : ℕ) → j ≡ key y → n ≡ length xs → IsOnce cmp key xs → place_of cmp key (key y) xs ≡ None
+      → IsIndex cmp key xs places → ((k : K) → lookup (is_at (cmp k)) more ≡ cond (is_at (cmp j) k) (Some n) (lookup (is_at (cmp k)) places)) → IsFirstAdded cmp key (xs ++ y ∷ []) more
+  first-push xs y places more j n same long once new index puts =
       record { once = once-push xs y once new; found = inl (index-push xs y places more j n same long new index puts) }
 
   -- where the index isn't empty, it is one of all items
-  pub first-index : (few : ℕ) (xs : List T) (places : List (K × ℕ)) → IsFirstAdded cmp key few xs places → (length places ≡ 0 → ⊥) → IsIndex cmp key xs places
-  first-index few xs places a some = ⊎_elim (λ (index : IsIndex cmp key xs places). index) (λ (none : (places ≡ []) × (length xs ≤ few)). absurd (some (ap length none.0))) a.found
+  pub first-index : (xs : List T) (places : List (K × ℕ)) → IsFirstAdded cmp key xs places → (length places ≡ 0 → ⊥) → IsIndex cmp key xs places
+  first-index xs places a some = ⊎_elim (λ (index : IsIndex cmp key xs places). index) (λ (none : (places ≡ []) × (length xs ≤ few)). absurd (some (ap length none.0))) a.found
 
-  pub first-copy : (few : ℕ) (xs : List T) (places empty : List (K × ℕ)) → IsFirstAdded cmp key few xs places → length places ≡ 0 → empty ≡ [] → IsFirstAdded cmp key few xs empty
-  first-copy few xs places empty a none e = subst (IsFirstAdded cmp key few xs) (nil_from_length places none ∙ sym e) a
+  pub first-copy : (xs : List T) (places empty : List (K × ℕ)) → IsFirstAdded cmp key xs places → length places ≡ 0 → empty ≡ [] → IsFirstAdded cmp key xs empty
+  first-copy xs places empty a none e = subst (IsFirstAdded cmp key xs) (nil_from_length places none ∙ sym e) a
 
-  pub first-indexed : (few : ℕ) (xs : List T) (places : List (K × ℕ)) → IsOnce cmp key xs → IsIndex cmp key xs places → IsFirstAdded cmp key few xs places
-  first-indexed few xs places once index = record { once = once; found = inl index }
+  pub first-indexed : (xs : List T) (places : List (K × ℕ)) → IsOnce cmp key xs → IsIndex cmp key xs places → IsFirstAdded cmp key xs places
+  first-indexed xs places once index = record { once = once; found = inl index }
 
   -- an item whose key has a place isn't put in again
   pub with_new-there : (xs : List T) (x : T) → is_some (place_of cmp key (key x) xs) ≡ true → xs ≡ with_new cmp key x xs

@@ -22,7 +22,7 @@ use Rattle.kin_graph.specs.Changes.{Kept, kept, with_row, with_users}
 use Rattle.kin_ids.specs.declared.ids.User.{User}
 use Rattle.kin_ids.specs.Users.{user_cmp, tag_cmp, same_user, same_tag, has_user}
 use Rattle.kin_graph.specs.Rows.{UserRow, no_row, is_apart, is_none, is_blank}
-use Rattle.kin_graph.specs.State.{PartState, IsStore, row_of, users_of, view_of}
+use Rattle.kin_graph.specs.State.{PartState, IsStore, LivesHere, row_of, users_of, view_of}
 use Rattle.kin_graph.specs.Views.{is_vertex, is_in_use}
 
 pub user_total : IsTotalOrder user_cmp
@@ -167,3 +167,13 @@ put-put R es fs hs k v w first last q = last q ∙ (ap (λ a. cond (is_at (R k) 
   twice : (b : Bool) → cond b w (cond b v (lookup (is_at (R q)) es)) ≡ cond b w (lookup (is_at (R q)) es)
   twice true = refl
   twice false = refl
+
+absent : {X : Type 0} (o : Option X) (d : X) → ((x : X) → o ≡ Some x → ⊥) → unwrap_or o d ≡ d
+absent None d h = refl
+absent (Some x) d h = absurd (h x refl)
+
+pub store-home : (s : PartState) → IsStore s → LivesHere s
+store-home s k = record {
+  users = λ u away. absent (lookup (same_user u) s.rows) no_row (λ r e. away (k.rows u r e).0);
+  tags = λ t away. absent (lookup (same_tag t) s.tags) [] (λ us e. away (k.tags t us e).0);
+}

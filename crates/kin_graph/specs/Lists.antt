@@ -7,6 +7,10 @@ use Rattle.std.specs.declared.cmp.Ordering.{Ordering}
 use Rattle.kin_graph.specs.declared.changes.Change.{Change}
 use Rattle.kin_graph.specs.declared.changes.Change.TheVariants as change
 
+-- so many items are searched without an index
+abbrev pub few : ℕ
+few = 16
+
 -- where the first item with this key stands
 abbrev pub place_of : {K T : Type 0} → (K → K → Ordering) → (T → K) → K → List T → Option ℕ
 place_of cmp key k items = position (λ x. is_at (cmp k) (key x)) items
@@ -40,6 +44,6 @@ abbrev pub IsIndex : {K T : Type 0} → (K → K → Ordering) → (T → K) →
 IsIndex {K} cmp key items places = (k : K) → lookup (is_at (cmp k)) places ≡ place_of cmp key k items
 
 -- each key stands once; the items are few, or there is an index of them
-pub record IsFirstAdded {K T : Type 0} (cmp : K → K → Ordering) (key : T → K) (few : ℕ) (items : List T) (places : List (K × ℕ)) : Type 0 where
+pub record IsFirstAdded {K T : Type 0} (cmp : K → K → Ordering) (key : T → K) (items : List T) (places : List (K × ℕ)) : Type 0 where
   pub once : IsOnce cmp key items
   pub found : (IsIndex cmp key items places) ⊎ ((places ≡ []) × (length items ≤ few))

@@ -27,7 +27,7 @@ no_row = record { out = []; inn = []; mentions = []; mentioners = []; uses = [];
 abbrev pub is_none : {X : Type 0} → List X → Bool
 is_none xs = length xs == 0
 
--- nobody follows, mentions or uses here
+-- the user is in no follow edge ever added, in no mention edge and in no use
 abbrev pub is_apart : UserRow → Bool
 is_apart r = ((is_none r.out && is_none r.inn) && (is_none r.mentions && is_none r.mentioners)) && is_none r.uses
 

@@ -48,6 +48,11 @@ pub record IsStore (s : PartState) : Type 0 where
   pub rows : (u : User) (r : UserRow) → lookup (same_user u) s.rows ≡ Some r → (user_part s.parts u ≡ s.part) × (is_blank r ≡ false)
   pub tags : (t : List ℕ) (us : List User) → lookup (same_tag t) s.tags ≡ Some us → (tag_part s.parts t ≡ s.part) × (is_none us ≡ false)
 
+-- users and tags of other partitions have nothing in the store
+pub record LivesHere (s : PartState) : Type 0 where
+  pub users : (u : User) → (user_part s.parts u ≡ s.part → ⊥) → row_of s u ≡ no_row
+  pub tags : (t : List ℕ) → (tag_part s.parts t ≡ s.part → ⊥) → users_of s t ≡ []
+
 -- a view after the operations of a piece of an epoch
 abbrev pub after : ℕ → Piece → PartView → PartView
 after e x v = ops_applied e x.stamp.ingest.0 v x.ops

@@ -38,7 +38,7 @@ impl<K: Ord, T: Keyed<K>> Model for FirstAdded<K, T> {
 
     ghost view = { λ a. a.items.items };
 
-    ghost invariant = { λ a. IsFirstAdded K.cmp T.key 16 a.items.items a.places.entries };
+    ghost invariant = { λ a. IsFirstAdded K.cmp T.key a.items.items a.places.entries };
 }
 
 impl<K: Ord + Copy + Drop, T: Keyed<K> + Copy + Drop> FirstAdded<K, T> {
@@ -145,10 +145,10 @@ fn grow_index<K: Ord + Copy + Drop, T: Keyed<K>>(
     items: &[T],
     item: &T,
 ) -> Result<(), Memory>
-    requires old { IsFirstAdded K.cmp T.key 16 items.now places.old.entries }
+    requires old { IsFirstAdded K.cmp T.key items.now places.old.entries }
     requires new { place_of K.cmp T.key (T.key item.now) items.now ≡ None }
-    ensures ok { OnOk result (IsFirstAdded K.cmp T.key 16 (items.now ++ item.now ∷ []) places.new.entries) }
-    ensures err { OnErr result (IsFirstAdded K.cmp T.key 16 items.now places.new.entries) }
+    ensures ok { OnOk result (IsFirstAdded K.cmp T.key (items.now ++ item.now ∷ []) places.new.entries) }
+    ensures err { OnErr result (IsFirstAdded K.cmp T.key items.now places.new.entries) }
 {
     if places.is_empty() {
         if items.len() < FEW {
@@ -166,8 +166,8 @@ fn copied_index<K: Ord + Copy + Drop, T: Keyed<K>>(
     places: &BTreeMap<K, usize>,
     items: &[T],
 ) -> Result<BTreeMap<K, usize>, AllocError>
-    requires { IsFirstAdded K.cmp T.key 16 items.now places.now.entries }
-    ensures { IfOk result (λ m. IsFirstAdded K.cmp T.key 16 items.now m.entries) }
+    requires { IsFirstAdded K.cmp T.key items.now places.now.entries }
+    ensures { IfOk result (λ m. IsFirstAdded K.cmp T.key items.now m.entries) }
 {
     if places.is_empty() {
         return Ok(BTreeMap::new(alloc));

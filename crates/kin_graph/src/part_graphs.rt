@@ -7,7 +7,7 @@ ghost use Rattle.kin_ids.specs.Operations.{op_part};
 ghost use Rattle.kin_ids.specs.Parts.{with_member};
 ghost use Rattle.kin_graph.specs.Lists.{taken_back};
 ghost use Rattle.kin_graph.specs.Rows.{row_applied, row_undone};
-ghost use Rattle.kin_graph.specs.State.{after, empty_part, row_of, users_of, view_of, TakesPart};
+ghost use Rattle.kin_graph.specs.State.{after, empty_part, row_of, users_of, view_of, LivesHere, TakesPart};
 ghost use Rattle.kin_graph.specs.Changes.{done, done_all, kept, undone, undone_all, with_row, with_users};
 
 use crate::changes::Change;
@@ -50,6 +50,14 @@ impl PartGraph {
             rows: BTreeMap::new(alloc),
             tags: BTreeMap::new(alloc),
         })
+    }
+
+    /// Which partition it is. It takes no memory.
+    pub fn part(&self) -> PartId
+        ensures number { result.0 ≡ self.now.part }
+        ensures home { LivesHere self.now }
+    {
+        self.part
     }
 
     /// An equal store. O(n log n) for n items in it.

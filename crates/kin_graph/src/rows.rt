@@ -64,36 +64,42 @@ impl Row {
         }
     }
 
+    /// The follow halves out of its user.
     pub(crate) fn out(&self) -> &[Half]
         ensures { result.now ≡ self.now.out }
     {
         self.out.items()
     }
 
+    /// The follow halves into its user.
     pub(crate) fn inn(&self) -> &[Half]
         ensures { result.now ≡ self.now.inn }
     {
         self.inn.items()
     }
 
+    /// The users whom its user mentions.
     pub(crate) fn mentions(&self) -> &[User]
         ensures { result.now ≡ self.now.mentions }
     {
         self.mentions.items()
     }
 
+    /// The users who mention its user.
     pub(crate) fn mentioners(&self) -> &[User]
         ensures { result.now ≡ self.now.mentioners }
     {
         self.mentioners.items()
     }
 
+    /// The first uses of tags by its user.
     pub(crate) fn uses(&self) -> &[Use]
         ensures { result.now ≡ self.now.uses }
     {
         self.uses.items()
     }
 
+    /// How many items mention its user, repeats included.
     pub(crate) fn said(&self) -> u64
         ensures { result ≡ self.now.said }
     {

@@ -4,4 +4,4 @@ use Rattle.kin_graph.proofs.first_added.copied_index.Goals as goal
 
 pub returns-then-is_empty : goal.returns-then-is_empty
 returns-then-is_empty g c =
-    first-copy g.met.K.Ord.total g.T.Keyed.key 16 c.args.items.now c.args.places.now.entries c.new.result.entries c.requires (search rules) c.new.ensures.empty
+    first-copy g.met.K.Ord.total g.T.Keyed.key c.args.items.now c.args.places.now.entries c.new.result.entries c.requires (search rules) c.new.ensures.empty

@@ -8,7 +8,7 @@ use Rattle.kin_graph.proofs.first_added.grow_index.Goals.{then-is_empty+else-ite
 
 pub returns-then-items-lt-FEW-clause-ok : goal.returns-then-items-lt-FEW-clause-ok
 returns-then-items-lt-FEW-clause-ok g c =
-    first-push-few g.met.K.Ord.total g.T.Keyed.key 16 c.args.items.now c.args.item.now c.args.places.now.entries c.requires.old c.requires.new (search rules) (omega (arith, c.if-items-lt-FEW.true))
+    first-push-few g.met.K.Ord.total g.T.Keyed.key c.args.items.now c.args.item.now c.args.places.now.entries c.requires.old c.requires.new (search rules) (omega (arith, c.if-items-lt-FEW.true))
 
 pub returns-clause-ok : goal.returns-clause-ok
 returns-clause-ok g c =
@@ -16,7 +16,7 @@ returns-clause-ok g c =
     let index : IsOf c.if-is_empty.places = elim c.if-is_empty.branch [
       | then-is_empty+else-items-lt-FEW+in_ok-places w ↦ subst IsOf (sym w.places-is) w.in_ok-places.ensures
       | else-is_empty w ↦ subst IsOf (sym w.places-is)
-          (first-index g.met.K.Ord.total g.T.Keyed.key 16 c.args.items.now c.args.places.now.entries c.requires.old (λ e. false≢true (w.if-is_empty.ensures.1 e)))
+          (first-index g.met.K.Ord.total g.T.Keyed.key c.args.items.now c.args.places.now.entries c.requires.old (λ e. false≢true (w.if-is_empty.ensures.1 e)))
     ] in
-    first-push g.met.K.Ord.total g.T.Keyed.key 16 c.args.items.now c.args.item.now c.if-is_empty.places.entries c.insert.new.self.entries c.key.result _ c.key.ensures refl
+    first-push g.met.K.Ord.total g.T.Keyed.key c.args.items.now c.args.item.now c.if-is_empty.places.entries c.insert.new.self.entries c.key.result _ c.key.ensures refl
     c.requires.old.once c.requires.new index c.in_ok-insert.ensures.updates.0

@@ -7,4 +7,4 @@ pub invariant_of-self : goal.invariant_of-self
 invariant_of-self g c =
     let within = subst (λ (xs : List _). c.args.place < length xs) (sym c.self.view_is) c.requires.place in
     let same = rw (← c.self.view_is) at c.requires.key in
-    first-set g.met.K.Ord.total g.T.Keyed.key c.self.inside.items.items c.args.place c.args.item within same 16 c.self.inside.places.entries c.self.invariant
+    first-set g.met.K.Ord.total g.T.Keyed.key c.self.inside.items.items c.args.place c.args.item within same c.self.inside.places.entries c.self.invariant
