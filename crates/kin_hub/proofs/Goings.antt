@@ -1,5 +1,5 @@
 -- What stands after each call of a hub.
-use Rattle.std.proofs.Common.{◌≡◌, ℕ, ◌<◌, ◌≤◌, List, [], Result, Ok, Err, sym, subst, arith, length, replicate}
+use Rattle.std.proofs.Common.{◌≡◌, ℕ, ◌<◌, ◌≤◌, ◌+◌, Option, List, [], Result, Ok, Err, sym, subst, arith, length, replicate}
 use Rattle.std.proofs.lemmas.List.{length-replicate, length-map}
 use Rattle.std.specs.Result.{IfOk, OnOk, OnErr}
 use Rattle.kin_ids.specs.declared.ops.Record.{Record}
@@ -9,13 +9,18 @@ use Rattle.kin_ids.specs.Lines.{stamps_of, past}
 use Rattle.kin_held.specs.Chains.{ChainView, chain_at}
 use Rattle.kin_held.specs.declared.answers.Taken.{Taken}
 use Rattle.kin_ids.specs.declared.stamps.End.{End}
+use Rattle.kin_ids.specs.declared.stamps.Stamp.{Stamp}
 use Rattle.kin_table.specs.declared.answers.IncarnationsSpent.{IncarnationsSpent}
+use Rattle.kin_table.specs.declared.answers.CutRefused.{CutRefused}
+use Rattle.kin_table.specs.declared.cuts.Cut.{Cut}
+use Rattle.kin_table.specs.Cuts.{IsNextCut}
 use Rattle.kin_table.specs.Tables.{agreed_of, reach_of}
-use Rattle.kin_hub.specs.Cores.{CoreView, IsCore, CoreTakes, least_reach, past_in, ready_run, ready, with_report, with_raise, with_seal}
+use Rattle.kin_hub.specs.Cores.{CoreView, IsCore, CoreTakes, chain_of, least_reach, past_in, ready_run, ready, stamps_between, since_cut, with_cut, with_report, with_raise, with_seal}
 use Rattle.kin_hub.specs.Fronts.{IsLongestFront}
-use Rattle.kin_hub.specs.Hubs.{HubView, nodes_in, parts_in, agreed_in}
+use Rattle.kin_hub.specs.Hubs.{HubView, nodes_in, parts_in, agreed_in, last_in, cuts_in}
 use Rattle.kin_hub.specs.Stands.{CoreStands, HubStands, HasStands}
-use Rattle.kin_hub.specs.Goes.{Knows, HubPlaces, HubKeeps, HubRaises, HubSeals, grown, based}
+use Rattle.kin_hub.specs.Goes.{Knows, HubPlaces, HubKeeps, HubRaises, HubSeals, HubCuts, AreSince, grown, based}
+use Rattle.kin_hub.specs.Cuts.{next_at, with_next}
 use Rattle.kin_hub.specs.Opens.{first_core, first_hub, no_lines, first_bases, no_vectors}
 use Rattle.kin_hub.proofs.Begins.{longest-front}
 use Rattle.kin_hub.proofs.Running.{reach-from, rises, at_most}
@@ -23,6 +28,7 @@ use Rattle.kin_hub.proofs.Taking.{take-stands}
 use Rattle.kin_hub.proofs.Reporting.{report-stands}
 use Rattle.kin_hub.proofs.Sealing.{seal-stands}
 use Rattle.kin_hub.proofs.Raising.{raise-stands}
+use Rattle.kin_hub.proofs.Cutting.{last-is, last-low, since-is, cut-stands}
 use Rattle.kin_hub.proofs.Opening.{opens-stands}
 
 module _ (old : HubView) (x : Piece) (n_lt : x.stamp.ingest.0 < nodes_in old) (q_lt : x.part.0 < parts_in old) (new : CoreView) (core : IsCore new) where
@@ -112,3 +118,44 @@ ready-longest h i (parts, feeds, lines, bases, vectors, s) =
     let some = s.core.core.table.parts in
     let many : length chains ≡ length h.core.helds = length-map h.core.helds (λ (held : List ChainView). past (agreed_in h i) (stamps_of (chain_at held i).held)) in
     longest-front (least_reach h.core i) chains (omega arith)
+
+module _ (h : HubView) (i from : ℕ) (lt : i < nodes_in h) (after : last_in h i ≤ from) (ahead : from ≤ agreed_in h i) where
+  -- what partition 0 holds past a position is what the hub has agreed past it
+  pub since-since : AreSince h i from (stamps_between (chain_of h.core 0 i) from (agreed_in h i))
+  since-since parts feeds lines bases vectors s =
+      let nodes = s.core.nodes_are in
+      let some = s.core.core.table.parts in
+      let rows = s.core.core.parts in
+      let count = s.core.parts_are in
+      let last = last-is parts feeds lines bases vectors h.core s.core (omega arith) i (omega arith) in
+      since-is parts feeds lines bases vectors h.core s.core (omega arith) i from (omega arith) (omega arith) ahead
+
+  pub since-result : (r : Result (List Stamp) Memory) → IfOk r (λ stamps. stamps ≡ stamps_between (chain_of h.core 0 i) from (agreed_in h i)) → IfOk r (AreSince h i from)
+  since-result (Ok stamps) is = subst (AreSince h i from) (sym is) since-since
+  since-result (Err e) is = tt
+
+-- no last position is above the agreed one
+pub last-within : (h : HubView) → HasStands h → (i : ℕ) → i < nodes_in h → last_in h i ≤ agreed_in h i
+last-within h (parts, feeds, lines, bases, vectors, s) i lt =
+    let nodes = s.core.nodes_are in
+    let some = s.core.core.table.parts in
+    let rows = s.core.core.parts in
+    let count = s.core.parts_are in
+    last-low parts feeds lines bases vectors h.core s.core (omega arith) i (omega arith)
+
+module _ (old : HubView) (n : Option ℕ) (new : CoreView) (core : IsCore new) where
+  cut-cuts : (cut : Cut) → IsNextCut old.core.table n (since_cut old.core) cut → new ≡ with_cut old.core cut.ends → HubCuts old n (record { core = new })
+  cut-cuts cut next is parts feeds lines bases vectors s = record {
+    core = subst (CoreStands parts feeds lines bases (with_next vectors (cuts_in old + 1) (next_at (length feeds) (vectors (cuts_in old)) lines (agreed_in old) n))) (sym is)
+        (cut-stands parts feeds lines bases vectors old.core s.core
+        (let some = s.core.core.table.parts in let rows = s.core.core.parts in let count = s.core.parts_are in omega arith) n cut next (subst IsCore is core));
+  }
+
+  pub cut-result : (r : Result Cut CutRefused) → IfOk r (IsNextCut old.core.table n (since_cut old.core)) → IfOk r (λ cut. new ≡ with_cut old.core cut.ends) → OnOk r (HubCuts old n (record { core = new }))
+  cut-result (Ok cut) next is = cut-cuts cut next is
+  cut-result (Err e) next is = tt
+
+  pub cut-some : (r : Result Cut CutRefused) → IfOk r (IsNextCut old.core.table n (since_cut old.core)) → IfOk r (λ cut. new ≡ with_cut old.core cut.ends) → OnErr r (new ≡ old.core) → HasStands old → HasStands (record { core = new })
+  cut-some (Ok cut) next is same (parts, feeds, lines, bases, vectors, s) =
+      (parts, feeds, lines, bases, with_next vectors (cuts_in old + 1) (next_at (length feeds) (vectors (cuts_in old)) lines (agreed_in old) n), cut-cuts cut next is parts feeds lines bases vectors s)
+  cut-some (Err e) next is same has = subst (λ (c : CoreView). HasStands (record { core = c })) (sym same) has

@@ -1,11 +1,11 @@
 -- A core in which one partition's chains change.
-use Rattle.std.proofs.Common.{◌≡◌, ℕ, ◌<◌, Bool, true, false, cond, eqb, List, [], refl, sym, ◌∙◌, subst, arith, length, set}
+use Rattle.std.proofs.Common.{◌≡◌, ℕ, ◌<◌, ◌≤◌, Bool, true, false, cond, eqb, List, [], refl, sym, ◌∙◌, subst, arith, length, set}
 use Rattle.std.proofs.lemmas.Bool.{eqb-true}
 use Rattle.std.proofs.lemmas.List.{length-set}
 use Rattle.kin_ids.specs.declared.stamps.Stamp.{Stamp}
 use Rattle.kin_ids.specs.declared.ops.Record.{Record}
 use Rattle.kin_held.specs.Chains.{ChainView, chain_at}
-use Rattle.kin_table.specs.Tables.{row_at, agreed_of, inc_of}
+use Rattle.kin_table.specs.Tables.{row_at, agreed_of, inc_of, cuts_of}
 use Rattle.kin_hub.specs.Cores.{CoreView, IsCore, held_at}
 use Rattle.kin_hub.specs.Lines.{IsHubChain, IsHubRow}
 use Rattle.kin_hub.specs.Stands.{CoreStands}
@@ -24,7 +24,8 @@ module _ (parts : ℕ) (feeds : List (List Record)) (lines : ℕ → List Stamp)
   node-in p i p_lt i_lt = let count = s.parts_are in let nodes = s.nodes_are in let each = s.core.chains p [] (omega arith) in omega arith
 
   module _ (q : ℕ) (q_lt : q < parts) (held : List ChainView) (chains : (i : ℕ) → i < length feeds → ChainFor q i (chain_at held i))
-      (rows : (i : ℕ) → i < length feeds → (row_at old.table.rows q).reported ≡ true → RowFor q i (chain_at held i)) where
+      (rows : (i : ℕ) → i < length feeds → (row_at old.table.rows q).reported ≡ true → RowFor q i (chain_at held i))
+      (floors : (i : ℕ) → i < length feeds → (chain_at held i).floor ≤ vectors (cuts_of old.table) i) where
     held-is : (p : ℕ) → held_at (set old.helds q held) p ≡ cond (eqb q p) held (held_at old.helds p)
     held-is p = get_or-set old.helds q p held [] (let count = s.parts_are in omega arith)
 
@@ -37,6 +38,10 @@ module _ (parts : ℕ) (feeds : List (List Record)) (lines : ℕ → List Stamp)
         subst (λ (k : ℕ). (row_at old.table.rows k).reported ≡ true → RowFor k i (chain_at held i)) (eqb-true q p e) (λ h. rows i i_lt h) r
     row_part p i p_lt i_lt r false e = s.rows p i p_lt i_lt r
 
+    floor_part : (p i : ℕ) → p < parts → i < length feeds → (b : Bool) → eqb q p ≡ b → (chain_at (cond b held (held_at old.helds p)) i).floor ≤ vectors (cuts_of old.table) i
+    floor_part p i p_lt i_lt true e = floors i i_lt
+    floor_part p i p_lt i_lt false e = s.floors p i p_lt i_lt
+
     pub held-stands : IsCore (record old { helds = set old.helds q held }) → CoreStands parts feeds lines bases vectors (record old { helds = set old.helds q held })
     held-stands core = record {
       core = core;
@@ -45,6 +50,7 @@ module _ (parts : ℕ) (feeds : List (List Record)) (lines : ℕ → List Stamp)
       each_line = s.each_line;
       chains = λ p i p_lt i_lt. subst (λ hs. ChainFor p i (chain_at hs i)) (sym (held-is p)) (chain_part p i p_lt i_lt (eqb q p) refl);
       rows = λ p i p_lt i_lt r. subst (λ hs. RowFor p i (chain_at hs i)) (sym (held-is p)) (row_part p i p_lt i_lt r (eqb q p) refl);
+      floors = λ p i p_lt i_lt. subst (λ (hs : List ChainView). (chain_at hs i).floor ≤ vectors (cuts_of old.table) i) (sym (held-is p)) (floor_part p i p_lt i_lt (eqb q p) refl);
       start = s.start;
       grow = s.grow;
       ends = s.ends;

@@ -8,5 +8,6 @@ pub mod Reporting
 pub mod Sealing
 pub mod Running
 pub mod Raising
+pub mod Cutting
 pub mod Opening
 pub mod Goings

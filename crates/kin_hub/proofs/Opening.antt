@@ -77,6 +77,7 @@ module _ (nodes parts : ℕ) (feeds : List (List Record)) (same_count : length f
     each_line = λ i i_lt. rw (inc-is i, agreed-is i) (no_line (length (feed_at feeds i)) i);
     chains = λ p i p_lt i_lt. rw (inc-is i, agreed-is i, chain-is p i p_lt) (empty_chain parts feeds p i);
     rows = λ p i p_lt i_lt r. absurd (false≢true (sym (row-is p p_lt) ∙ r));
+    floors = λ p i p_lt i_lt. rw (chain-is p i p_lt) (omega arith);
     start = λ i i_lt. refl;
     grow = λ k i k_lt i_lt. omega arith;
     ends = λ k i k_lt i_lt. rw (agreed-is i, end-is k i k_lt) first_end;

@@ -158,6 +158,7 @@ module _ (parts : ℕ) (feeds : List (List Record)) (lines : ℕ → List Stamp)
     each_line = λ i i_lt. subst (λ (n : ℕ). IsHubLine (length (feed_at feeds i)) i (grown lines j Run i) (bases i) (inc_of old.table i) n) (sym (agreed-at i)) (line_at i i_lt (eqb j i) refl);
     chains = λ p i p_lt i_lt. subst (λ (n : ℕ). IsHubChain parts feeds p i (grown lines j Run i) (bases i) (inc_of old.table i) n (chain_of old p i)) (sym (agreed-at i)) (chain_at_node p i p_lt i_lt (eqb j i) refl);
     rows = λ p i p_lt i_lt r. subst (λ (n : ℕ). IsHubRow i (inc_of old.table i) n (chain_of old p i) (row_at old.table.rows p)) (sym (agreed-at i)) (row_at_node p i p_lt i_lt r (eqb j i) refl);
+    floors = s.floors;
     start = s.start;
     grow = s.grow;
     ends = λ k i k_lt i_lt. subst (λ (n : ℕ). IsHubEnd (grown lines j Run i) n (vectors k i) (end_at (vector_at old.table.vectors k) i)) (sym (agreed-at i)) (end_at_node k i k_lt i_lt (eqb j i) refl);

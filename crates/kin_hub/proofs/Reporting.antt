@@ -16,7 +16,8 @@ use Rattle.kin_hub.specs.Stands.{CoreStands}
 use Rattle.kin_hub.proofs.Writes.{get_or-set}
 use Rattle.kin_hub.proofs.Holding.{node-in}
 
-line-end : (at : ℕ) (ss : List Stamp) → IsEnd at ss (end_of at ss)
+-- where a line ends is an end of it
+pub line-end : (at : ℕ) (ss : List Stamp) → IsEnd at ss (end_of at ss)
 line-end at ss = subst (λ ys. IsEnd at ys (end_of at ss)) (append-nil ss) (front-end_of at ss [])
 
 module _ (parts : ℕ) (feeds : List (List Record)) (lines : ℕ → List Stamp) (bases : ℕ → List ℕ) (vectors : ℕ → ℕ → ℕ) (old : CoreView) (s : CoreStands parts feeds lines bases vectors old) (p : ℕ) (p_lt : p < parts) where
@@ -52,6 +53,7 @@ module _ (parts : ℕ) (feeds : List (List Record)) (lines : ℕ → List Stamp)
     each_line = s.each_line;
     chains = s.chains;
     rows = λ q i q_lt i_lt r. subst (Row q i) (sym (at_row q)) (here q i q_lt i_lt (eqb p q) refl (subst (λ (row : RowView). row.reported ≡ true) (at_row q) r));
+    floors = s.floors;
     start = s.start;
     grow = s.grow;
     ends = s.ends;

@@ -141,6 +141,7 @@ module _ (parts : ℕ) (feeds : List (List Record)) (lines : ℕ → List Stamp)
     each_line = λ i i_lt. subst (λ (n : ℕ). IsHubLine (length (feed_at feeds i)) i (lines i) (based bases j (agreed_of old.table j) i) n (agreed_of old.table i)) (sym (inc_at i)) (line_at i i_lt (eqb j i) refl);
     chains = λ p i p_lt i_lt. subst (λ (n : ℕ). IsHubChain parts feeds p i (lines i) (based bases j (agreed_of old.table j) i) n (agreed_of old.table i) (chain_of old p i)) (sym (inc_at i)) (chain_at_node p i p_lt i_lt (eqb j i) refl);
     rows = λ p i p_lt i_lt r. subst (λ (n : ℕ). IsHubRow i n (agreed_of old.table i) (chain_of old p i) (row_at old.table.rows p)) (sym (inc_at i)) (row_at_node p i p_lt i_lt r (eqb j i) refl);
+    floors = s.floors;
     start = s.start;
     grow = s.grow;
     ends = s.ends;

@@ -1,5 +1,5 @@
 -- A core that takes a piece that is known stands for the same as before.
-use Rattle.std.proofs.Common.{◌≡◌, ℕ, ◌<◌, ◌≤◌, Bool, true, false, cond, eqb, List, refl, sym, ◌∙◌, ap, subst, length}
+use Rattle.std.proofs.Common.{◌≡◌, ℕ, ◌<◌, ◌≤◌, Bool, true, false, cond, eqb, List, refl, sym, ◌∙◌, ap, subst, arith, length}
 use Rattle.std.proofs.lemmas.Bool.{eqb-true}
 use Rattle.kin_ids.specs.declared.stamps.Stamp.{Stamp}
 use Rattle.kin_ids.specs.declared.ops.Record.{Record}
@@ -8,10 +8,11 @@ use Rattle.kin_ids.specs.Order.{feed_at}
 use Rattle.kin_ids.specs.Operations.{Fits}
 use Rattle.kin_held.specs.Chains.{ChainView, chain_at, no_chain}
 use Rattle.kin_held.specs.declared.answers.Taken.{Taken}
-use Rattle.kin_table.specs.Tables.{row_at, inc_of}
+use Rattle.kin_table.specs.Tables.{row_at, inc_of, cuts_of}
 use Rattle.kin_hub.specs.Cores.{CoreView, IsCore, CoreTakes, held_at, chain_of}
 use Rattle.kin_hub.specs.Lines.{base_of}
 use Rattle.kin_hub.specs.Stands.{CoreStands}
+use Rattle.kin_held.proofs.Kept.{takes-all}
 use Rattle.kin_hub.proofs.Writes.{get_or-set}
 use Rattle.kin_hub.proofs.Placing.{takes-chain, takes-row}
 use Rattle.kin_hub.proofs.Holding.{ChainFor, RowFor, node-in, held-stands}
@@ -40,9 +41,20 @@ module _ (parts : ℕ) (feeds : List (List Record)) (lines : ℕ → List Stamp)
       (takes-row x.stamp.ingest.0 _ _ (row_at old.table.rows x.part.0) (chain_of old x.part.0 x.stamp.ingest.0) x t takes.1.0 (s.rows x.part.0 x.stamp.ingest.0 q_lt n_lt r) le takes.1.1)
   row_node i i_lt r false e = s.rows x.part.0 i q_lt i_lt r
 
+  -- the floor stays
+  floor_node : (i : ℕ) → i < length feeds → (b : Bool) → eqb x.stamp.ingest.0 i ≡ b → (cond b takes.1.0 (chain_of old x.part.0 i)).floor ≤ vectors (cuts_of old.table) i
+  floor_node i i_lt true e =
+      let n = x.stamp.ingest.0 in
+      let kept = takes-all (λ (y : Piece). Unit {0}) (chain_of old x.part.0 n) x t takes.1.0 (λ k d lt. tt) (λ k d lt. tt) tt takes.1.1 in
+      let low = s.floors x.part.0 n q_lt n_lt in
+      let same : takes.1.0.floor ≡ (chain_of old x.part.0 n).floor = kept.floor in
+      subst (λ (k : ℕ). takes.1.0.floor ≤ vectors (cuts_of old.table) k) (eqb-true _ _ e) (omega arith)
+  floor_node i i_lt false e = s.floors x.part.0 i q_lt i_lt
+
   pub take-stands : IsCore new → CoreStands parts feeds lines bases vectors new
   take-stands core = subst (CoreStands parts feeds lines bases vectors) (sym takes.2)
       (held-stands parts feeds lines bases vectors old s x.part.0 q_lt takes.0
       (λ i i_lt. subst (Chain i) (sym (chain-is i)) (chain_node i i_lt (eqb x.stamp.ingest.0 i) refl))
       (λ i i_lt r. subst (Row i) (sym (chain-is i)) (row_node i i_lt r (eqb x.stamp.ingest.0 i) refl))
+      (λ i i_lt. subst (λ (ch : ChainView). ch.floor ≤ vectors (cuts_of old.table) i) (sym (chain-is i)) (floor_node i i_lt (eqb x.stamp.ingest.0 i) refl))
       (subst IsCore takes.2 core))

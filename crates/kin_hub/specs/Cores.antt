@@ -1,13 +1,15 @@
 -- The core of a hub: the chains of each partition, and the table. What its calls leave.
 use Rattle.std.specs.Prelude.{ℕ, ◌≡◌, true, List, [], All, length, map, slice_index_or, slice_set}
 use Rattle.kin_ids.specs.declared.ids.Inc.{Inc}
+use Rattle.std.specs.List.{range_with_len}
 use Rattle.kin_ids.specs.declared.stamps.Stamp.{Stamp}
+use Rattle.kin_ids.specs.declared.stamps.End.{End}
 use Rattle.kin_ids.specs.declared.ops.Piece.{Piece}
 use Rattle.kin_ids.specs.Lines.{end_of, stamps_of, upto, past, least_from}
 use Rattle.kin_held.specs.Chains.{ChainView, chain_at}
 use Rattle.kin_held.specs.Takes.{TakesAt}
 use Rattle.kin_held.specs.declared.answers.Taken.{Taken}
-use Rattle.kin_table.specs.Tables.{RowView, TableView, IsTable, agreed_of, reach_of, with_row, with_agreed, sealed_of}
+use Rattle.kin_table.specs.Tables.{RowView, TableView, IsTable, agreed_of, reach_of, last_of, with_row, with_agreed, with_vector, sealed_of}
 use Rattle.kin_hub.specs.Fronts.{common_of}
 
 pub record CoreView : Type 0 where
@@ -66,3 +68,15 @@ with_raise c i = record c { table = with_agreed c.table i (ready c i) }
 -- a node's incarnation is the next one
 abbrev pub with_seal : CoreView → ℕ → CoreView
 with_seal c i = record c { table = sealed_of c.table i }
+
+-- the stamps that a chain holds past one position, up to another
+abbrev pub stamps_between : ChainView → ℕ → ℕ → List Stamp
+stamps_between chain from to = upto to (past from (stamps_of chain.held))
+
+-- each node's agreed stamps past the last vector, as partition 0 has them
+abbrev pub since_cut : CoreView → List (List Stamp)
+since_cut c = map (λ i. stamps_between (chain_of c 0 i) (last_of c.table i).to (agreed_of c.table i)) (range_with_len 0 (length c.table.agreed))
+
+-- one more vector
+abbrev pub with_cut : CoreView → List End → CoreView
+with_cut c ends = record c { table = with_vector c.table ends }

@@ -1,12 +1,14 @@
 -- What stands after each call, for all that stood before.
-use Rattle.std.specs.Prelude.{ℕ, ◌≡◌, ◌≤◌, ◌==◌, if◌then◌else◌, List, [], ◌∷◌, ◌++◌}
+use Rattle.std.specs.Prelude.{ℕ, ◌≡◌, ◌≤◌, ◌+◌, ◌==◌, if◌then◌else◌, Option, length, List, [], ◌∷◌, ◌++◌}
 use Rattle.kin_ids.specs.declared.stamps.Stamp.{Stamp}
 use Rattle.kin_ids.specs.declared.ops.Record.{Record}
 use Rattle.kin_ids.specs.declared.ops.Piece.{Piece}
+use Rattle.kin_ids.specs.Lines.{past}
 use Rattle.kin_ids.specs.Operations.{Fits}
-use Rattle.kin_hub.specs.Hubs.{HubView, inc_in, agreed_in}
+use Rattle.kin_hub.specs.Hubs.{HubView, inc_in, agreed_in, cuts_in}
 use Rattle.kin_hub.specs.Cores.{ready_run}
 use Rattle.kin_hub.specs.Lines.{base_of}
+use Rattle.kin_hub.specs.Cuts.{next_at, with_next}
 use Rattle.kin_hub.specs.Stands.{HubStands}
 
 -- a piece that was stamped: it fits the feeds, its incarnation exists, and its base is that incarnation's
@@ -46,3 +48,14 @@ based bases j at i = if j == i then bases i ++ at ∷ [] else bases i
 abbrev pub HubSeals : HubView → ℕ → HubView → Type 0
 HubSeals old j new = (parts : ℕ) (feeds : List (List Record)) (lines : ℕ → List Stamp) (bases : ℕ → List ℕ) (vectors : ℕ → ℕ → ℕ) →
     HubStands parts feeds lines bases vectors old → HubStands parts feeds lines (based bases j (agreed_in old j)) vectors new
+
+-- what stood stands with the cut as the next vector
+abbrev pub HubCuts : HubView → Option ℕ → HubView → Type 0
+HubCuts old n new = (parts : ℕ) (feeds : List (List Record)) (lines : ℕ → List Stamp) (bases : ℕ → List ℕ) (vectors : ℕ → ℕ → ℕ) →
+    HubStands parts feeds lines bases vectors old →
+    HubStands parts feeds lines bases (with_next vectors (cuts_in old + 1) (next_at (length feeds) (vectors (cuts_in old)) lines (agreed_in old) n)) new
+
+-- these are node i's agreed stamps past a position
+abbrev pub AreSince : HubView → ℕ → ℕ → List Stamp → Type 0
+AreSince h i from stamps = (parts : ℕ) (feeds : List (List Record)) (lines : ℕ → List Stamp) (bases : ℕ → List ℕ) (vectors : ℕ → ℕ → ℕ) →
+    HubStands parts feeds lines bases vectors h → stamps ≡ past from (lines i)

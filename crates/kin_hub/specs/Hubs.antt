@@ -1,7 +1,7 @@
 -- What contracts see of a hub.
-use Rattle.std.specs.Prelude.{ℕ, length}
+use Rattle.std.specs.Prelude.{ℕ, Option, length}
 use Rattle.kin_held.specs.Chains.{ChainView}
-use Rattle.kin_table.specs.Tables.{RowView, row_at, agreed_of, inc_of}
+use Rattle.kin_table.specs.Tables.{RowView, row_at, agreed_of, inc_of, missing_of, cuts_of, last_of}
 use Rattle.kin_hub.specs.Cores.{CoreView, chain_of}
 
 pub record HubView : Type 0 where
@@ -27,3 +27,14 @@ agreed_in h i = agreed_of h.core.table i
 
 abbrev pub inc_in : HubView → ℕ → ℕ
 inc_in h i = inc_of h.core.table i
+
+-- the least partition that never reported
+abbrev pub missing_in : HubView → Option ℕ
+missing_in h = missing_of h.core.table
+
+-- how many epochs are cut, and where the last vector is at a node
+abbrev pub cuts_in : HubView → ℕ
+cuts_in h = cuts_of h.core.table
+
+abbrev pub last_in : HubView → ℕ → ℕ
+last_in h i = (last_of h.core.table i).to

@@ -4,4 +4,5 @@ pub mod Hubs
 pub mod Lines
 pub mod Stands
 pub mod Opens
+pub mod Cuts
 pub mod Goes

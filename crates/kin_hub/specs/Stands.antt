@@ -4,13 +4,14 @@ use Rattle.kin_ids.specs.declared.stamps.Stamp.{Stamp}
 use Rattle.kin_ids.specs.declared.ops.Record.{Record}
 use Rattle.kin_ids.specs.Order.{feed_at}
 use Rattle.kin_table.specs.Vectors.{end_at, vector_at}
-use Rattle.kin_table.specs.Tables.{row_at, agreed_of, inc_of}
+use Rattle.kin_table.specs.Tables.{row_at, agreed_of, inc_of, cuts_of}
 use Rattle.kin_hub.specs.Cores.{CoreView, IsCore, chain_of}
 use Rattle.kin_hub.specs.Hubs.{HubView}
 use Rattle.kin_hub.specs.Lines.{IsHubLine, IsHubChain, IsHubRow, IsHubEnd}
 
 -- The core stands for these. `lines i` is the agreed line of node i, `bases i` has where each of its incarnations began, and
--- `vectors k i` is its position in vector k, of which vector 0 is zeros.
+-- `vectors k i` is its position in vector k, of which vector 0 is zeros. No floor is above the last
+-- vector.
 pub record CoreStands (parts : ℕ) (feeds : List (List Record)) (lines : ℕ → List Stamp) (bases : ℕ → List ℕ) (vectors : ℕ → ℕ → ℕ) (c : CoreView) : Type 0 where
   pub core : IsCore c
   pub parts_are : length c.helds ≡ parts
@@ -18,6 +19,7 @@ pub record CoreStands (parts : ℕ) (feeds : List (List Record)) (lines : ℕ �
   pub each_line : (i : ℕ) → i < length feeds → IsHubLine (length (feed_at feeds i)) i (lines i) (bases i) (inc_of c.table i) (agreed_of c.table i)
   pub chains : (p i : ℕ) → p < parts → i < length feeds → IsHubChain parts feeds p i (lines i) (bases i) (inc_of c.table i) (agreed_of c.table i) (chain_of c p i)
   pub rows : (p i : ℕ) → p < parts → i < length feeds → (row_at c.table.rows p).reported ≡ true → IsHubRow i (inc_of c.table i) (agreed_of c.table i) (chain_of c p i) (row_at c.table.rows p)
+  pub floors : (p i : ℕ) → p < parts → i < length feeds → (chain_of c p i).floor ≤ vectors (cuts_of c.table) i
   pub start : (i : ℕ) → i < length feeds → vectors 0 i ≡ 0
   pub grow : (k i : ℕ) → k + 1 < length c.table.vectors → i < length feeds → vectors k i ≤ vectors (k + 1) i
   pub ends : (k i : ℕ) → k < length c.table.vectors → i < length feeds → IsHubEnd (lines i) (agreed_of c.table i) (vectors k i) (end_at (vector_at c.table.vectors k) i)

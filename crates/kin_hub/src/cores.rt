@@ -1,20 +1,22 @@
 //! The core of a hub: the partitions' chains, and the table.
 
-ghost use Rattle.std.specs.Prelude.{◌≡◌, ◌≤◌, ◌<◌, ◌↔◌, ℕ, All, IfOk, OnErr, OnOk, IsErr, length, map, replicate};
+ghost use Rattle.std.specs.Prelude.{◌≡◌, ◌≤◌, ◌<◌, ◌⊎◌, ◌↔◌, ℕ, IfOk, IfSome, OnErr, OnOk, IsErr, IsErrOf, IsNone, Some, length, map};
+ghost use Rattle.kin_ids.specs.declared.ops.Piece.{Piece};
 ghost use Rattle.kin_ids.specs.Operations.{IsWellFormed};
 ghost use Rattle.kin_held.specs.Chains.{ChainView};
 ghost use Rattle.kin_hub.specs.Cores.{kept_inc};
 
-use crate::runs::shared_end;
+use crate::runs::{between, shared_end};
 use kin_held::{Held, Taken};
-use kin_ids::{Inc, IngestId, Memory, PartId, Piece};
-use kin_table::{End, IncarnationsSpent, Raised, Table};
+use kin_ids::{Epoch, Inc, IngestId, Memory, PartId, Piece, Stamp, StampList};
+use kin_table::{Cut, CutRefused, End, IncarnationsSpent, Raised, Table};
 use std::alloc::Global;
 use std::marker::Model;
 
 /// The chains of each partition, and the table. `incs` and `tops` have room for a report.
 #[derive(Drop)]
 pub(crate) struct Core {
+    alloc: Global,
     helds: Vec<Held>,
     table: Table,
     incs: Vec<Inc>,
@@ -35,8 +37,10 @@ impl Model for Core {
 
 impl Core {
     ghost use Rattle.kin_held.specs.Takes.{taken_of};
-    ghost use Rattle.kin_table.specs.Tables.{agreed_of, inc_of, base_of, reach_of, raised_of, missing_of};
-    ghost use Rattle.kin_hub.specs.Cores.{CoreTakes, IsCore, chain_of, least_reach, ready, with_report, with_raise, with_seal};
+    ghost use Rattle.kin_table.specs.Tables.{agreed_of, inc_of, base_of, reach_of, raised_of, missing_of, cuts_of, last_of};
+    ghost use Rattle.kin_table.specs.Vectors.{vector_at};
+    ghost use Rattle.kin_table.specs.Cuts.{IsNextCut};
+    ghost use Rattle.kin_hub.specs.Cores.{CoreTakes, IsCore, chain_of, least_reach, ready, stamps_between, since_cut, with_report, with_raise, with_seal, with_cut};
     ghost use Rattle.kin_hub.specs.Opens.{first_core};
 
     /// Nothing came yet.
@@ -52,6 +56,7 @@ impl Core {
         }
         let count = usize::from(nodes);
         Ok(Core {
+            alloc,
             helds,
             table: Table::new(alloc, nodes, parts)?,
             incs: vec![in alloc; Inc(0); count]?,
@@ -125,6 +130,65 @@ impl Core {
         self.table.seal(i)
     }
 
+    /// The agreed stamps of node `i` past a position, as partition 0 has them.
+    pub fn agreed_since(&self, i: IngestId, from: u64) -> Result<StampList, Memory>
+        requires node { i.0 < length self.now.table.agreed }
+        requires ahead { from ≤ agreed_of self.now.table i.0 }
+        ensures { IfOk result (λ stamps.
+            stamps ≡ stamps_between (chain_of self.now 0 i.0) from (agreed_of self.now.table i.0)) }
+    {
+        let agreed = self.table.agreed(i);
+        let run = between(&self.helds[0], i, from, agreed);
+        Ok(StampList::of(stamps(self.alloc, run)?))
+    }
+
+    /// Cuts the next epoch.
+    pub fn cut(&mut self, n: Option<u64>) -> Result<Cut, CutRefused>
+        requires room { cuts_of self.old.table < u32.MAX }
+        requires ahead { (i : ℕ) → i < length self.old.table.agreed
+            → (last_of self.old.table i).to ≤ agreed_of self.old.table i }
+        ensures not_reported { (p : PartId)
+            → IsErrOf result (CutRefused.NotReported p) ↔ (missing_of self.old.table ≡ Some p.0) }
+        ensures err { OnErr result (self.new ≡ self.old) }
+        ensures cut { IfOk result (IsNextCut self.old.table n (since_cut self.old)) }
+        ensures appended { IfOk result (λ cut. self.new ≡ with_cut self.old cut.ends) }
+        ensures core { IsCore self.new }
+    {
+        if let Some(part) = self.table.missing() {
+            return Err(CutRefused::NotReported(part));
+        }
+        let lists = self.since_cut()?;
+        self.table.cut(n, &lists)
+    }
+
+    // Each node's agreed stamps past the last vector.
+    fn since_cut(&self) -> Result<Vec<StampList>, Memory>
+        requires { (i : ℕ) → i < length self.now.table.agreed
+            → (last_of self.now.table i).to ≤ agreed_of self.now.table i }
+        ensures { IfOk result (λ lists. lists.items ≡ since_cut self.now) }
+    {
+        let mut lists = Vec::with_capacity(self.alloc, self.tops.len())?;
+        for i in 0..self.tops.len() {
+            let node = IngestId(i as u16);
+            lists.push(self.agreed_since(node, self.table.last(node))?)?;
+        }
+        Ok(lists)
+    }
+
+    pub fn cuts(&self) -> u64
+        ensures { result ≡ cuts_of self.now.table }
+    {
+        self.table.cuts()
+    }
+
+    pub fn cut_of(&self, k: Epoch) -> Option<&Cut>
+        ensures none { IsNone result ↔ ((k.0 ≡ 0) ⊎ (cuts_of self.now.table < k.0)) }
+        ensures cut { IfSome result (λ cut.
+            cut.now ≡ record { epoch = k; ends = vector_at self.now.table.vectors k.0 }) }
+    {
+        self.table.cut_of(k)
+    }
+
     pub fn agreed(&self, i: IngestId) -> u64
         requires { i.0 < length self.now.table.agreed }
         ensures { result ≡ agreed_of self.now.table i.0 }
@@ -164,4 +228,11 @@ fn read(held: &Held, incs: &mut [Inc], tops: &mut [u64])
         incs[i] = held.inc(node);
         tops[i] = held.top(node);
     }
+}
+
+// The stamps of pieces.
+fn stamps(alloc: Global, run: &[Piece]) -> Result<Vec<Stamp>, Memory>
+    ensures { IfOk result (λ v. v.items ≡ map (λ (x : Piece). x.stamp) run.now) }
+{
+    Ok(run.iter().map(|piece| piece.stamp).collect(alloc)?)
 }

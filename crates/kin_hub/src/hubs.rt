@@ -1,12 +1,12 @@
 //! The hub.
 
-ghost use Rattle.std.specs.Prelude.{◌≡◌, ◌<◌, ◌↔◌, ℕ, List, IfOk, OnErr, OnOk, IsErr, length};
+ghost use Rattle.std.specs.Prelude.{◌≡◌, ◌<◌, ◌≤◌, ◌⊎◌, ◌↔◌, List, IfOk, IfSome, OnErr, OnOk, IsErr, IsErrOf, IsNone, Some, length};
 ghost use Rattle.kin_ids.specs.declared.ops.Record.{Record};
 
 use crate::cores::Core;
 use kin_held::Taken;
-use kin_ids::{Inc, IngestId, Memory, PartId, Piece};
-use kin_table::{End, IncarnationsSpent, Raised};
+use kin_ids::{Epoch, Inc, IngestId, Memory, PartId, Piece, StampList};
+use kin_table::{Cut, CutRefused, End, IncarnationsSpent, Raised};
 use std::alloc::Global;
 use std::marker::Model;
 
@@ -32,11 +32,13 @@ impl Hub {
     ghost use Rattle.kin_held.specs.Takes.{taken_of};
     ghost use Rattle.kin_hub.specs.Fronts.{IsLongestFront};
     ghost use Rattle.kin_table.specs.Tables.{base_of, raised_of};
-    ghost use Rattle.kin_hub.specs.Cores.{CoreTakes, least_reach, past_in, ready_run, ready, with_report, with_raise, with_seal};
-    ghost use Rattle.kin_hub.specs.Hubs.{parts_in, nodes_in, chain_in, agreed_in, inc_in};
+    ghost use Rattle.kin_table.specs.Vectors.{vector_at};
+    ghost use Rattle.kin_table.specs.Cuts.{IsNextCut};
+    ghost use Rattle.kin_hub.specs.Cores.{CoreTakes, least_reach, past_in, ready_run, ready, since_cut, with_report, with_raise, with_seal, with_cut};
+    ghost use Rattle.kin_hub.specs.Hubs.{parts_in, nodes_in, chain_in, agreed_in, inc_in, missing_in, cuts_in, last_in};
     ghost use Rattle.kin_hub.specs.Opens.{first_hub, no_lines, first_bases, no_vectors};
     ghost use Rattle.kin_hub.specs.Stands.{HubStands};
-    ghost use Rattle.kin_hub.specs.Goes.{Knows, HubPlaces, HubKeeps, HubRaises, HubSeals};
+    ghost use Rattle.kin_hub.specs.Goes.{Knows, HubPlaces, HubKeeps, HubRaises, HubSeals, HubCuts, AreSince};
 
     /// Nothing came yet. It stands for no lines, over every list of feeds with one feed for each node.
     pub fn new(alloc: Global, nodes: u16, parts: u16) -> Result<Hub, Memory>
@@ -109,6 +111,47 @@ impl Hub {
         ensures stands { OnOk result (HubSeals self.old i.0 self.new) }
     {
         self.core.seal(i)
+    }
+
+    /// The agreed stamps of node `i` past a position, which is at or past the last vector. It costs a search by halves and O(n)
+    /// in the stamps.
+    pub fn agreed_since(&self, i: IngestId, from: u64) -> Result<StampList, Memory>
+        requires node { i.0 < nodes_in self.now }
+        requires after_cut { last_in self.now i.0 ≤ from }
+        requires ahead { from ≤ agreed_in self.now i.0 }
+        ensures { IfOk result (AreSince self.now i.0 from) }
+    {
+        self.core.agreed_since(i, from)
+    }
+
+    /// Cuts the next epoch: at the agreed positions, or with a number by the fair cut from the last vector on. It costs O(n) in
+    /// the partitions, the nodes and the agreed stamps past the last vector.
+    pub fn cut(&mut self, n: Option<u64>) -> Result<Cut, CutRefused>
+        requires { cuts_in self.old < u32.MAX }
+        ensures not_reported { (p : PartId)
+            → IsErrOf result (CutRefused.NotReported p) ↔ (missing_in self.old ≡ Some p.0) }
+        ensures err { OnErr result (self.new ≡ self.old) }
+        ensures cut { IfOk result (IsNextCut self.old.core.table n (since_cut self.old.core)) }
+        ensures appended { IfOk result (λ cut. self.new ≡ record { core = with_cut self.old.core cut.ends }) }
+        ensures stands { OnOk result (HubCuts self.old n self.new) }
+    {
+        self.core.cut(n)
+    }
+
+    /// How many epochs are cut. It costs O(1).
+    pub fn cuts(&self) -> u64
+        ensures { result ≡ cuts_in self.now }
+    {
+        self.core.cuts()
+    }
+
+    /// The cut of an epoch, from epoch 1 on. It costs O(1).
+    pub fn cut_of(&self, k: Epoch) -> Option<&Cut>
+        ensures none { IsNone result ↔ ((k.0 ≡ 0) ⊎ (cuts_in self.now < k.0)) }
+        ensures cut { IfSome result (λ cut.
+            cut.now ≡ record { epoch = k; ends = vector_at self.now.core.table.vectors k.0 }) }
+    {
+        self.core.cut_of(k)
     }
 
     /// Up to where every partition has node `i`, as last raised. It costs O(1).

@@ -7,4 +7,4 @@ mod runs;
 
 pub use hubs::Hub;
 pub use kin_held::Taken;
-pub use kin_table::{End, IncarnationsSpent, Raised};
+pub use kin_table::{Cut, CutRefused, End, IncarnationsSpent, Raised};

@@ -6,7 +6,7 @@ ghost use Rattle.kin_ids.specs.Lines as lines;
 ghost use Rattle.kin_ids.specs.Lines.{stamps_of, upto, past};
 ghost use Rattle.kin_held.specs.Chains.{ChainView, chain_at};
 ghost use Rattle.kin_hub.specs.Fronts.{same_stamps, common_of};
-ghost use Rattle.kin_hub.specs.Cores.{past_in};
+ghost use Rattle.kin_hub.specs.Cores.{past_in, stamps_between};
 
 use kin_held::Held;
 use kin_ids::{IngestId, Piece};
@@ -26,11 +26,11 @@ pub(crate) fn shared_end(helds: &[Held], i: IngestId, at: u64, to: u64) -> u64
     end_of(at, run)
 }
 
-// The pieces of a chain past one position, up to another.
-fn between(held: &Held, i: IngestId, at: u64, to: u64) -> &[Piece]
+/// The pieces of a chain past one position, up to another. It costs two searches by halves.
+pub(crate) fn between(held: &Held, i: IngestId, at: u64, to: u64) -> &[Piece]
     requires node { i.0 < length held.now }
     requires ahead { at ≤ to }
-    ensures { stamps_of result.now ≡ upto to (lines.past at (stamps_of (chain_at held.now i.0).held)) }
+    ensures { stamps_of result.now ≡ stamps_between (chain_at held.now i.0) at to }
 {
     let front = &held.chain(i)[..held.count_upto(i, to)];
     &front[held.count_upto(i, at)..]

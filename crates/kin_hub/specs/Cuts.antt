@@ -1,0 +1,15 @@
+-- Cuts over agreed lines.
+use Rattle.std.specs.Prelude.{ℕ, ◌==◌, if◌then◌else◌, List, Option, Some, None}
+use Rattle.kin_ids.specs.declared.stamps.Stamp.{Stamp}
+use Rattle.kin_ids.specs.Lines.{past}
+use Rattle.kin_ids.specs.Fair.{fair}
+
+-- Where the next cut ends node i, by its agreed line and its last position: without a number at the agreed position, with a number
+-- fairly from the last vector on.
+abbrev pub next_at : ℕ → (ℕ → ℕ) → (ℕ → List Stamp) → (ℕ → ℕ) → Option ℕ → ℕ → ℕ
+next_at nodes last lines agreed None i = agreed i
+next_at nodes last lines agreed (Some n) i = fair last (λ j. past (last j) (lines j)) nodes n i
+
+-- the vectors with one more, whose number this is
+abbrev pub with_next : (ℕ → ℕ → ℕ) → ℕ → (ℕ → ℕ) → ℕ → ℕ → ℕ
+with_next vectors number next k i = if k == number then next i else vectors k i
