@@ -24,7 +24,7 @@ use Rattle.kin_report.specs.Text.{line_of}
 use Rattle.kin_rules.specs.Counts.{in_count}
 use Rattle.kin_report.specs.Report.{Ran, events_of, scheduled, drained, whole_run, printed, block_after, report}
 use Rattle.kin_report.proofs.Quiet.{is_quiet, AreQuiet, quiet-printed, printed-append, events_of-append}
-use Rattle.kin_replay.specs.FirstRun.{deliveries, reports, first_events, first_lines, first_setting, first_options, first_graph, first_text, first_report, epoch_text}
+use Rattle.kin_replay.specs.FirstRun.{deliveries, reports, first_events, first_lines, first_setting, first_options, first_graph, first_text, first_report, first_history, first_vector, epoch_text}
 use Rattle.kin_replay.proofs.FirstStory.{commits, after-commits, committed_by, story, after-first, after-append, ended, drain-first, mined-first, line-ended, start-ended, end-ended, first, first-to}
 
 -- events that complete no mining
@@ -129,7 +129,7 @@ module _ (feed : List Record) (n : ℕ) (lines : ℕ → List Stamp) (vectors : 
       ∙ (ap (λ (l : ℕ). with_words (codes "0@" ++ decimal n) l (count_by (λ (x : Entry). is_bad x.content) new)) new-length
       ∙ ap (λ (b : ℕ). with_words (codes "0@" ++ decimal n) n b) new-bad))
 
-  snapshot-is : snapshot (feed ∷ []) vectors 1 ≡ first_graph feed n
+  pub snapshot-is : snapshot (feed ∷ []) vectors 1 ≡ first_graph feed n
   snapshot-is = ap (folded empty_graph) new-is
 
   rules-are : (g : Graph) → rule_lines first_options g ≡ top_lines (codes "in") 10 g (in_count g)
@@ -171,7 +171,7 @@ module _ (feed : List Record) (parts n : ℕ) (some_parts : 0 < parts) (some : 0
   run-is : whole_run set (first_lines parts n) ≡ plan ++ (drained (commits parts) ++ last)
   run-is = ap (λ (ds : List Event). plan ++ drained ds) drain-is ∙ ap (λ (xs : List Ran). plan ++ xs) (drained-append (commits parts) (mine ∷ []))
 
-  history-is : after [] (events_of (whole_run set (first_lines parts n))) ≡ whole
+  pub history-is : first_history feed parts n ≡ whole
   history-is =
       ap (λ (r : List Ran). after [] (events_of r)) run-is
       ∙ (ap (after []) (events_of-append plan (drained (commits parts) ++ last))
@@ -201,3 +201,14 @@ module _ (feed : List Record) (parts n : ℕ) (some_parts : 0 < parts) (some : 0
   report-is =
       ap (λ (h : List Event). printed set false (block_after set first_options h) [] (whole_run set (first_lines parts n))) history-is
       ∙ (ap (printed set false blocks []) run-is ∙ (run-printed ∙ block-is))
+
+  -- node 0 stands at n in the first vector
+  pub position-is : first_vector feed parts n 1 0 ≡ n
+  position-is = ap (λ (h : List Event). vector set h 1 0) history-is ∙ end-ended feed parts n some_parts some few
+
+  -- its snapshot is the graph of the first n records
+  pub graph-is : snapshot (feed ∷ []) (first_vector feed parts n) 1 ≡ first_graph feed n
+  graph-is =
+      ap (λ (h : List Event). snapshot (feed ∷ []) (vector set h) 1) history-is
+      ∙ snapshot-is feed n (line set whole) (vector set whole) (first feed parts n some_parts some few) (line-ended feed parts n some_parts some few) (first-to feed parts n some_parts some few) refl some few
+      (start-ended feed parts n some_parts some few) (end-ended feed parts n some_parts some few)

@@ -1,2 +1,5 @@
+pub mod WorldParts
+pub mod PartCounts
 pub mod FirstStory
 pub mod FirstReport
+pub mod FirstWorld

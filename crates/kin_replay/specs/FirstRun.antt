@@ -7,14 +7,15 @@ use Rattle.kin_ids.specs.declared.options.OptionWords.{OptionWords}
 use Rattle.kin_script.specs.declared.events.Event.{Event}
 use Rattle.kin_script.specs.declared.events.Event.TheVariants as event
 use Rattle.kin_script.specs.declared.events.Line.{Line}
-use Rattle.kin_history.specs.Setting.{Setting}
+use Rattle.kin_history.specs.Setting.{Setting, after}
+use Rattle.kin_history.specs.Vectors.{vector}
 use Rattle.kin_ids.specs.Graph.{Graph, empty_graph}
 use Rattle.kin_ids.specs.Operations.{is_bad}
 use Rattle.kin_ids.specs.Order.{entries, folded}
 use Rattle.kin_rules.specs.Counts.{in_count}
 use Rattle.kin_report.specs.Text.{line_of}
 use Rattle.kin_report.specs.Block.{top_lines}
-use Rattle.kin_report.specs.Report.{report, whole_run}
+use Rattle.kin_report.specs.Report.{events_of, report, whole_run}
 use Rattle.kin_report.specs.RowWords.{no_rules, stamp, deliver, raise, cut, lines_from}
 use Rattle.kin_report.specs.RowWords as words
 
@@ -57,3 +58,11 @@ first_text feed n = epoch_text n (count_by is_bad (take n feed)) ++ top_lines (c
 abbrev pub first_report : List Record → ℕ → ℕ → List ℕ
 first_report feed parts n =
     report (first_setting feed parts) first_options false (whole_run (first_setting feed parts) (first_lines parts n))
+
+-- the history of the schedule and its drain
+abbrev pub first_history : List Record → ℕ → ℕ → List Event
+first_history feed parts n = after [] (events_of (whole_run (first_setting feed parts) (first_lines parts n)))
+
+-- its vectors
+abbrev pub first_vector : List Record → ℕ → ℕ → ℕ → ℕ → ℕ
+first_vector feed parts n = vector (first_setting feed parts) (first_history feed parts n)

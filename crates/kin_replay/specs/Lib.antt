@@ -3,4 +3,5 @@ pub mod FirstWords
 pub mod FirstForms
 pub mod FirstSchedule
 pub mod FirstEnds
+pub mod StoreCounts
 pub mod Refusals

@@ -1,6 +1,6 @@
 //! The words of the command.
 
-ghost use Rattle.std.specs.Prelude.{◌≡◌, ◌∷◌, [], ℕ, Option, option_map, map, string_bytes};
+ghost use Rattle.std.specs.Prelude.{◌≡◌, ◌<◌, ◌∷◌, [], ℕ, Option, IfSome, option_map, map, string_bytes};
 ghost use Rattle.kin_ids.specs.Texts.{number_of};
 ghost use Rattle.kin_replay.specs.FirstWords.{form_of, form_after, named, parts_of, some_parts};
 ghost use Rattle.kin_replay.specs.FirstForms.{form_shown};
@@ -16,7 +16,8 @@ pub struct Form<'a> {
 }
 
 fn read_parts(name: &str, number: &str) -> Option<u16>
-    ensures { result ≡ parts_of name.now number.now }
+    ensures parts { result ≡ parts_of name.now number.now }
+    ensures some { IfSome result (λ n. 0 < n) }
 {
     if name != "--parts" {
         return None;
@@ -34,7 +35,9 @@ fn read_names<'a>(
     f: &str,
     feed: &'a str,
 ) -> Option<Form<'a>>
-    ensures { form_shown result ≡ named parts (s.now ∷ script.now ∷ f.now ∷ feed.now ∷ []) }
+    requires { IfSome parts (λ n. 0 < n) }
+    ensures form { form_shown result ≡ named parts (s.now ∷ script.now ∷ f.now ∷ feed.now ∷ []) }
+    ensures some { IfSome result (λ f. 0 < f.parts) }
 {
     let parts = parts?;
     if s != "--script" || script.is_empty() || f != "--feeds" || feed.is_empty() {
@@ -48,7 +51,8 @@ fn read_names<'a>(
 }
 
 fn read_after<'a>(words: &'a [String]) -> Option<Form<'a>>
-    ensures { form_shown result ≡ form_after (map string_bytes words.now) }
+    ensures form { form_shown result ≡ form_after (map string_bytes words.now) }
+    ensures some { IfSome result (λ f. 0 < f.parts) }
 {
     match words {
         [s, script, f, feed] => read_names(
@@ -71,7 +75,8 @@ fn read_after<'a>(words: &'a [String]) -> Option<Form<'a>>
 
 /// Reads the words after the command. None exactly where they haven't the form.
 pub fn read_words<'a>(words: &'a [String]) -> Option<Form<'a>>
-    ensures { form_shown result ≡ form_of (map string_bytes words.now) }
+    ensures form { form_shown result ≡ form_of (map string_bytes words.now) }
+    ensures some { IfSome result (λ f. 0 < f.parts) }
 {
     let [r, i, rest @ ..] = words else {
         return None;

@@ -1,14 +1,15 @@
 -- Users with their numbers, in any order.
-use Rattle.std.proofs.Common.{◌≡◌, ℕ, Bool, true, false, ◌&&◌, cond, List, [], ◌∷◌, map, filter, take, length, refl, sym, ap, ◌∙◌, zero-add}
+use Rattle.std.proofs.Common.{◌≡◌, ℕ, Bool, true, false, ◌&&◌, cond, List, [], ◌∷◌, ◌++◌, map, filter, take, length, refl, sym, ap, ◌∙◌, zero-add}
 use Rattle.std.specs.Prelude.{nat_lt}
 use Rattle.std.specs.Cmp.{IsEquivalence}
 use Rattle.std.specs.List.{count_by, IsDistinct, AllByRecursion}
 use Rattle.std.proofs.lemmas.Bool.{cond_both}
 use Rattle.std.proofs.lemmas.List.Sums.{length-filter}
-use Rattle.std.proofs.lemmas.Map.Keys.{IsDistinct-cons, IsDistinct-head, IsDistinct-tail}
+use Rattle.std.proofs.lemmas.Map.Keys.{IsDistinct-push, IsDistinct-cons, IsDistinct-head, IsDistinct-tail}
 use Rattle.std.proofs.lemmas.Map.Made.{is_member-filter, length-from_same_keys}
 use Rattle.kin_ids.specs.declared.ids.User.{User}
 use Rattle.kin_ids.specs.Users.{same_user, has_user}
+use Rattle.kin_ids.specs.Graph.{Graph, Edge, Mention, TagUse, distinct_onto, vertices}
 use Rattle.kin_ids.proofs.Same.{same_user-true, same_user-refl, same_user-sym}
 use Rattle.kin_rules.specs.declared.numbers.UserNumber.{UserNumber}
 use Rattle.kin_rules.specs.Top.{positive_users, numbered_users, UsersInAnyOrder}
@@ -57,3 +58,15 @@ pub any-order : UsersInAnyOrder
 any-order f us vs t once once' same =
     ap (take t) (alike-in-order users-exact (positive_users (numbered_users f us)) (positive_users (numbered_users f vs))
     (λ p. count-positive f p us ∙ (counts-same us vs once once' same (λ u. nat_lt 0 (f u) && p (entry f u)) ∙ sym (count-positive f p vs))))
+
+distinct-once : (seen us : List User) → IsDistinct same_user seen → IsDistinct same_user (distinct_onto seen us)
+distinct-once seen [] once = once
+distinct-once seen (u ∷ us) once = cond_both (has_user seen u) (distinct_onto seen us) (distinct_onto (seen ++ u ∷ []) us) (IsDistinct same_user)
+    (λ _. distinct-once seen us once) (λ no. distinct-once (seen ++ u ∷ []) us (IsDistinct-push user-laws seen u once no))
+
+-- the vertices of a graph are each there once
+pub vertices-once : (g : Graph) → IsDistinct same_user (vertices g)
+unfolding IsDistinct
+vertices-once g =
+    distinct-once [] ((map (λ (e : Edge). e.start) g.edges ++ map (λ (e : Edge). e.end) g.edges)
+    ++ (map (λ (m : Mention). m.start) g.mentions ++ map (λ (m : Mention). m.end) g.mentions) ++ map (λ (x : TagUse). x.user) g.uses) tt
