@@ -1,0 +1,5 @@
+use Rattle.kin_bench.specs.Room.{HasRoom}
+use Rattle.kin_bench.proofs.stores.spread.Given as goal
+
+abbrev pub invariant-loop-left : goal.invariant-loop-left
+invariant-loop-left l = HasRoom l.store

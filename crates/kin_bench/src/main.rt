@@ -1,0 +1,43 @@
+//! Runs one of the benchmarks: `chains N forward`, `chains N reverse`, `stores N celebrity` or `stores N spread`.
+#![tactic(auto)]
+
+mod chains;
+mod stores;
+
+use kin_ids::Memory;
+use kin_ids::decimals::read_decimal;
+use std::alloc::Global;
+use std::env;
+use std::process::ExitCode;
+
+// Whether the words named a benchmark, which then ran.
+fn run(alloc: Global, words: &[String]) -> Result<bool, Memory> {
+    let [what, count, how] = words else {
+        return Ok(false);
+    };
+    let Some(n @ 0..=4_000_000_000) = read_decimal(count.as_bytes()) else {
+        return Ok(false);
+    };
+    match (what.as_str(), how.as_str()) {
+        ("chains", "forward") => chains::forward(alloc, n)?,
+        ("chains", "reverse") => chains::reverse(alloc, n)?,
+        ("stores", "celebrity") => stores::celebrity(alloc, n as u32)?,
+        ("stores", "spread") => stores::spread(alloc, n as u32)?,
+        _ => return Ok(false),
+    }
+    Ok(true)
+}
+
+fn main(rt: HostRuntime) -> ExitCode {
+    let Ok(args) = env::args(&rt) else {
+        return ExitCode::from(2);
+    };
+    let Ok(words) = args.skip(1).collect::<Vec<String>>(rt.alloc()) else {
+        return ExitCode::from(7);
+    };
+    match run(rt.alloc(), words.as_slice()) {
+        Ok(true) => ExitCode::from(0),
+        Ok(false) => ExitCode::from(2),
+        Err(_) => ExitCode::from(7),
+    }
+}
