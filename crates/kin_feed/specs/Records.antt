@@ -21,6 +21,7 @@ item_of (mark ∷ text) =
     else if mark == 35 then option_map item.Hash (tag_of text)
     else None
 
+-- an item before others, where all are items
 abbrev pub with_item : Option Item → Option (List Item) → Option (List Item)
 with_item (Some x) (Some xs) = Some (x ∷ xs)
 with_item _ _ = None
@@ -35,10 +36,12 @@ abbrev pub unlike : Option User → Option User → Option (User × User)
 unlike (Some u) (Some v) = if u.0 == v.0 then None else Some (u, v)
 unlike _ _ = None
 
+-- the two users of these fields, where there is no third field
 abbrev pub pair_of : List (List ℕ) → Option (User × User)
 pair_of (u ∷ v ∷ []) = unlike (user_of u) (user_of v)
 pair_of _ = None
 
+-- a Follow or an Unfollow of two users, and Bad where there are none
 abbrev pub edge_of : (User → User → Record) → Option (User × User) → Record
 edge_of make (Some p) = make p.0 p.1
 edge_of make None = record_kind.Bad
@@ -48,11 +51,12 @@ abbrev pub tweet_by : Option User → Option (List Item) → Record
 tweet_by (Some u) (Some items) = if nat_le 1 (length items) && nat_le (length items) 16 then record_kind.Tweet u items else record_kind.Bad
 tweet_by _ _ = record_kind.Bad
 
+-- the tweet of these fields: its user and then its items
 abbrev pub tweet_of : List (List ℕ) → Record
 tweet_of [] = record_kind.Bad
 tweet_of (u ∷ items) = tweet_by (user_of u) (items_of items)
 
--- by the first field: `f` and two users, `x` and two users, `t` and a user and items; anything else is Bad
+-- the record of a row by its first field: `f` and two users, `x` and two users, `t` and a user and items; anything else is Bad
 abbrev pub record_by : List ℕ → List (List ℕ) → Record
 record_by kind fields =
     if bytes_eq kind (codes "f") then edge_of record_kind.Follow (pair_of fields)
