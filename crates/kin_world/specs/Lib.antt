@@ -1,0 +1,2 @@
+pub mod SentStamps
+pub mod SentEntries
