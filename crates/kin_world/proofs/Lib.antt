@@ -1,1 +1,16 @@
 pub mod SentLooks
+pub mod Sents
+pub mod Made
+pub mod Facts
+pub mod Refusals
+pub mod Fronts
+pub mod Ready
+pub mod Reports
+pub mod Raises
+pub mod Crashes
+pub mod Stamping
+pub mod Restarting
+pub mod Taking
+pub mod Delivering
+pub mod Running
+pub mod Opening

@@ -1,2 +1,7 @@
 pub mod SentStamps
 pub mod SentEntries
+pub mod Worlds
+pub mod Opens
+pub mod Steps
+pub mod Stands
+pub mod Runs

@@ -1,0 +1,57 @@
+use Rattle.std.proofs.Common.{◌≡◌, ◌∙◌, ap, subst}
+use Rattle.kin_hub.specs.Hubs.{agreed_in}
+use Rattle.kin_script.specs.declared.events.Event.{Event}
+use Rattle.kin_world.specs.SentStamps.{find_sent}
+use Rattle.kin_world.specs.Worlds.{WorldView}
+use Rattle.kin_world.specs.Steps.{Stamps, Delivers, told_raise}
+use Rattle.kin_world.specs.Stands.{Keeps}
+use Rattle.kin_world.proofs.Facts.{node_in}
+use Rattle.kin_world.proofs.Running.{if_ok}
+use Rattle.kin_world.proofs.Stamping.{stamp-keeps}
+use Rattle.kin_world.proofs.Delivering.{deliver-keeps}
+use Rattle.kin_world.proofs.Reports.{report-keeps}
+use Rattle.kin_world.proofs.Raises.{raise-keeps}
+use Rattle.kin_world.proofs.Crashes.{crash-keeps}
+use Rattle.kin_world.proofs.Restarting.{restart-keeps, may-restart}
+use Rattle.kin_world.proofs.cores.Core.step.Goals as goal
+
+pub restart-requires-clause-may : goal.restart-requires-clause-may
+restart-requires-clause-may c =
+    let legal = rw c.in-Restart.is at c.requires.event in
+    let story = c.requires.story in
+    may-restart story.0 c.args.self.now story.1 story.2 c.in-Restart.ingest (node_in story.0 c.args.self.now story.1 story.2 c.in-Restart.ingest.0 legal)
+
+pub returns-in-Stamp-clause-keeps : goal.returns-in-Stamp-clause-keeps
+returns-in-Stamp-clause-keeps c =
+    let old = c.args.self.now in
+    let new = c.stamp.new.self in
+    let legal = rw c.in-Stamp.is at c.requires.event in
+    rw c.in-Stamp.is (if_ok c.stamp.result _ _ (λ o made. stamp-keeps old c.in-Stamp.ingest c.in-Stamp.n o new legal.0 legal.1 legal.2 made) c.stamp.ensures.stamps)
+
+pub returns-in-Deliver-clause-keeps : goal.returns-in-Deliver-clause-keeps
+returns-in-Deliver-clause-keeps c =
+    let old = c.args.self.now in
+    let new = c.deliver.new.self in
+    let e = c.in-Deliver in
+    let legal = rw c.in-Deliver.is at c.requires.event in
+    rw c.in-Deliver.is (if_ok c.deliver.result _ _ (λ o delivers. deliver-keeps old e.part e.ingest e.inc e.to o new legal.0 legal.1 delivers) c.deliver.ensures.delivers)
+
+pub returns-in-Report-clause-keeps : goal.returns-in-Report-clause-keeps
+returns-in-Report-clause-keeps c =
+    let legal = rw (c.in-Report.is, ← c.self.view_is) at c.requires.event in
+    rw (c.in-Report.is, ← c.self.view_is) (report-keeps _ c.in-Report.part c.report.new.self legal c.report.ensures.row c.report.ensures.stands)
+
+pub returns-in-Raise-clause-keeps : goal.returns-in-Raise-clause-keeps
+returns-in-Raise-clause-keeps c =
+    let legal = rw (c.in-Raise.is, ← c.self-in-Raise.view_is) at c.requires.event in
+    rw (c.in-Raise.is, ← c.self-in-Raise.view_is) (raise-keeps _ c.in-Raise.ingest c.told_raise.result c.raise.new.self legal (c.told_raise.ensures ∙ ap told_raise c.raise.ensures.answer) c.raise.ensures.raised c.raise.ensures.stands)
+
+pub returns-in-Crash-clause-keeps : goal.returns-in-Crash-clause-keeps
+returns-in-Crash-clause-keeps c =
+    let legal = rw c.in-Crash.is at c.requires.event in
+    rw c.in-Crash.is (crash-keeps c.args.self.now c.in-Crash.ingest c.crash.result c.crash.new.self legal c.crash.ensures.crashes)
+
+pub returns-in-Restart-clause-keeps : goal.returns-in-Restart-clause-keeps
+returns-in-Restart-clause-keeps c =
+    let legal = rw c.in-Restart.is at c.requires.event in
+    rw c.in-Restart.is (restart-keeps c.args.self.now c.in-Restart.ingest c.restart.result c.restart.new.self legal c.restart.ensures.restarts)

@@ -1,0 +1,71 @@
+-- A world stands for a history.
+use Rattle.std.specs.Prelude.{ℕ, ◌≡◌, ◌<◌, ◌+◌, true, List, [], ◌∷◌, length, slice_index}
+use Rattle.kin_ids.specs.declared.stamps.Stamp.{Stamp}
+use Rattle.kin_ids.specs.Lines.{upto, made_by, seen_in}
+use Rattle.kin_ingest.specs.declared.ingests.Ingest.{Ingest}
+use Rattle.kin_script.specs.declared.events.Event.{Event}
+use Rattle.kin_script.specs.declared.outcomes.Outcome.{Outcome}
+use Rattle.kin_history.specs.Setting.{Setting, nodes, feed_len, IsHistory}
+use Rattle.kin_history.specs.Lines.{up, inc, line, next, sent, delivered, reported, has_reported, bases, base, top_in, seen, agreed}
+use Rattle.kin_history.specs.Vectors.{cuts, vector, committed}
+use Rattle.kin_history.specs.Outcomes.{outcome_of}
+use Rattle.kin_held.specs.ChainOf.{IsChainOf}
+use Rattle.kin_table.specs.Tables.{inc_in}
+use Rattle.kin_hub.specs.Hubs.{HubView, chain_in, row_in}
+use Rattle.kin_hub.specs.Stands.{HubStands}
+use Rattle.kin_world.specs.declared.sent_logs.Sent.{Sent}
+use Rattle.kin_world.specs.Worlds.{WorldView, IsWorld, node_at}
+
+-- a node after a history
+abbrev pub node_of : Setting → List Event → ℕ → Ingest
+node_of set h i = record {
+  id = record { 0 = i };
+  len = feed_len set i;
+  inc = record { 0 = inc set h i };
+  base = base set h i (inc set h i);
+  next = next set h i;
+  up = up set h i;
+}
+
+-- stamps with the bases of their incarnations
+abbrev pub with_bases : (ℕ → List ℕ) → List Stamp → List Sent
+with_bases bases [] = []
+with_bases bases (s ∷ ss) = record { stamp = s; base = slice_index (bases s.ingest.0) s.inc.0 } ∷ with_bases bases ss
+
+-- the line of a node up to its agreed position
+abbrev pub agreed_line : Setting → List Event → ℕ → List Stamp
+agreed_line set h i = upto (agreed set h i) (line set h i)
+
+-- The world stands for a history.
+pub record Stands (set : Setting) (w : WorldView) (h : List Event) : Type 0 where
+  -- it is of this setting, and the events are in range
+  pub world : IsWorld w
+  pub feeds : w.feeds ≡ set.feeds
+  pub parts : w.parts ≡ set.parts
+  pub history : IsHistory set h
+  -- each node is as the history says, and the stamps are all that were made, in order, with their bases
+  pub ingests : (i : ℕ) → i < nodes set → node_at w i ≡ node_of set h i
+  pub stamps : w.sent ≡ with_bases (bases set h) (sent set h)
+  -- each partition keeps the greatest incarnation that came. Its chain has the line up to that incarnation's base, and then the longest
+  -- run of its stamps that all came, from the floor on: the vector that the partition has committed.
+  pub chains : (p i : ℕ) → p < set.parts → i < nodes set →
+      IsChainOf i (seen set h p i) (base set h i (seen set h p i)) (vector set h (committed set h p) i) (delivered set h p)
+      (upto (base set h i (seen set h p i)) (line set h i)) (made_by i (seen set h p i) (sent set h)) (chain_in w.hub p i)
+  -- each row has what that incarnation and the chain's top were at the partition's last report
+  pub rows : (p : ℕ) → p < set.parts → (row_in w.hub p).reported ≡ has_reported set h p
+  pub row_incs : (p i : ℕ) → p < set.parts → i < nodes set → has_reported set h p ≡ true →
+      inc_in (row_in w.hub p).incs i ≡ seen_in (reported set h p) i
+  pub row_tops : (p i : ℕ) → p < set.parts → i < nodes set → has_reported set h p ≡ true →
+      slice_index (row_in w.hub p).tops i ≡ top_in set (reported set h p) h i (seen_in (reported set h p) i)
+  -- there is a vector of each cut, and the hub stands for the agreed lines, the bases and the vectors
+  pub vectors : length w.hub.core.table.vectors ≡ cuts set h + 1
+  pub hub : HubStands set.parts set.feeds (agreed_line set h) (bases set h) (vector set h) w.hub
+
+-- it stands for some history
+abbrev pub HasStory : WorldView → Type 0
+HasStory w = (set : Setting) × (h : List Event) × Stands set w h
+
+-- After an event with this answer the world stands for each history that it stood for, with the event; and the answer is the one that
+-- the history gives.
+abbrev pub Keeps : WorldView → Event → Outcome → WorldView → Type 0
+Keeps old e o new = (set : Setting) (h : List Event) → Stands set old h → (o ≡ outcome_of set h e) × Stands set new (e ∷ h)

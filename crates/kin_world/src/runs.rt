@@ -1,0 +1,25 @@
+//! Events in turn.
+
+ghost use Rattle.std.specs.Prelude.{◌≡◌, All, IfOk, OnErr};
+ghost use Rattle.kin_history.specs.Setting.{IsEvent};
+ghost use Rattle.kin_world.specs.Worlds.{IsBuilt, setting_of};
+ghost use Rattle.kin_world.specs.Runs.{Runs, RunsInPart};
+
+use crate::worlds::World;
+use kin_ids::Memory;
+use kin_script::{Event, Outcome};
+use std::alloc::Global;
+
+/// Gives the world these events in turn, and collects the answers. After `Memory` it has taken some first ones of them.
+pub fn run(alloc: Global, world: &mut World, events: &[Event]) -> Result<Vec<Outcome>, Memory>
+    requires events { All (IsEvent (setting_of world.old)) events.now }
+    requires built { All IsBuilt events.now }
+    ensures runs { IfOk result (λ told. Runs world.old events.now told.items world.new) }
+    ensures err { OnErr result (RunsInPart world.old events.now world.new) }
+{
+    let mut told = Vec::with_capacity(alloc, events.len())?;
+    for event in events {
+        told.push(world.step(*event)?)?;
+    }
+    Ok(told)
+}
