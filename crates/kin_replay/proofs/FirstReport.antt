@@ -1,5 +1,5 @@
 -- What the report of the one form of schedule is.
-use Rattle.std.proofs.Common.{◌≡◌, ℕ, zero, suc, ◌+◌, ◌-◌, ◌<◌, ◌≤◌, Bool, true, false, cond, eqb, min, List, [], ◌∷◌, ◌++◌, Option, Some, None, length, take, drop, refl, sym, ◌∙◌, ap, subst, arith, append_assoc, codes}
+use Rattle.std.proofs.Common.{◌≡◌, ℕ, zero, suc, ◌+◌, ◌-◌, ◌<◌, ◌≤◌, true, false, cond, eqb, List, [], ◌∷◌, ◌++◌, None, length, take, refl, sym, ◌∙◌, ap, arith, codes}
 use Rattle.std.specs.List.{count_by}
 use Rattle.std.specs.Fmt.{digits, decimal}
 use Rattle.std.proofs.lemmas.Bool.{eq-eqb, ne_eqb}
@@ -9,23 +9,21 @@ use Rattle.kin_ids.specs.declared.stamps.Stamp.{Stamp}
 use Rattle.kin_ids.specs.declared.ops.Record.{Record}
 use Rattle.kin_ids.specs.Graph.{Graph, empty_graph}
 use Rattle.kin_ids.specs.Operations.{is_bad}
-use Rattle.kin_ids.specs.Order.{Entry, entries, of_epoch, snapshot, between, folded}
+use Rattle.kin_ids.specs.Order.{Entry, entries, of_epoch, snapshot, folded}
 use Rattle.kin_script.specs.declared.events.Event.{Event}
-use Rattle.kin_script.specs.declared.events.Event.TheVariants as event
-use Rattle.kin_script.specs.declared.events.Line.{Line}
 use Rattle.kin_history.specs.Setting.{Setting, after}
 use Rattle.kin_history.specs.Lines.{line}
 use Rattle.kin_history.specs.Vectors.{vector}
 use Rattle.kin_history.specs.Drain.{drain}
 use Rattle.kin_report.specs.RowWords.{stamp, deliver, raise, cut, commit, mine, lines_from}
 use Rattle.kin_report.specs.RowWords as words
-use Rattle.kin_report.specs.Block.{inc_at, block, epoch_line, end_word, top_lines, rule_lines}
+use Rattle.kin_report.specs.Block.{block, epoch_line, end_word, top_lines, rule_lines}
 use Rattle.kin_report.specs.Text.{line_of}
 use Rattle.kin_rules.specs.Counts.{in_count}
-use Rattle.kin_report.specs.Report.{Ran, events_of, scheduled, drained, whole_run, printed, block_after, report}
+use Rattle.kin_report.specs.Report.{Ran, events_of, scheduled, drained, whole_run, printed, block_after}
 use Rattle.kin_report.proofs.Quiet.{is_quiet, AreQuiet, quiet-printed, printed-append, events_of-append}
 use Rattle.kin_replay.specs.FirstRun.{deliveries, reports, first_events, first_lines, first_setting, first_options, first_graph, first_text, first_report, first_history, first_vector, epoch_text}
-use Rattle.kin_replay.proofs.FirstStory.{commits, after-commits, committed_by, story, after-first, after-append, ended, drain-first, mined-first, line-ended, start-ended, end-ended, first, first-to}
+use Rattle.kin_replay.proofs.FirstStory.{commits, after-commits, story, after-first, after-append, ended, drain-first, mined-first, line-ended, start-ended, end-ended, first, first-to}
 
 -- events that complete no mining
 abbrev Calm : List Event → Type 0

@@ -1,17 +1,15 @@
 -- What the one form of schedule leads to.
-use Rattle.std.proofs.Common.{◌≡◌, ℕ, zero, suc, ◌+◌, ◌-◌, ◌<◌, ◌≤◌, Bool, true, false, cond, eqb, leb, min, List, [], ◌∷◌, ◌++◌, Option, Some, None, length, refl, sym, ◌∙◌, ap, subst, arith, ⊎_elim, append_assoc, replicate}
-use Rattle.std.proofs.lemmas.Bool.{eq-eqb, ne_eqb, cond-true, cond-false, cases_lt}
-use Rattle.std.proofs.lemmas.List.{append-nil}
+use Rattle.std.proofs.Common.{◌≡◌, ℕ, zero, suc, ◌+◌, ◌<◌, ◌≤◌, Bool, true, false, eqb, leb, List, [], ◌∷◌, ◌++◌, Some, None, length, refl, ◌∙◌, ap, arith, ⊎_elim}
+use Rattle.std.proofs.lemmas.Bool.{eq-eqb, ne_eqb, cases_lt}
 use Rattle.kin_ids.specs.declared.stamps.Stamp.{Stamp}
 use Rattle.kin_ids.specs.declared.ops.Record.{Record}
 use Rattle.kin_ids.proofs.Lines.{same_stamp-refl}
-use Rattle.kin_ids.specs.Lines.{next_stamp, find_stamp, first_without, least_from, ack_of, front_in, end_of}
+use Rattle.kin_ids.specs.Lines.{next_stamp, find_stamp, first_without, least_from, ack_of, front_in}
 use Rattle.kin_script.specs.declared.events.Event.{Event}
-use Rattle.kin_script.specs.declared.events.Event.TheVariants as event
 use Rattle.kin_script.specs.declared.outcomes.Outcome.TheVariants as outcome
 use Rattle.kin_history.specs.Outcomes.{outcome_of}
-use Rattle.kin_history.specs.Setting.{Setting, after, feed_len}
-use Rattle.kin_history.specs.Lines.{up, inc, line, sent, delivered, reported, agreed, has_reported}
+use Rattle.kin_history.specs.Setting.{Setting, after}
+use Rattle.kin_history.specs.Lines.{line, sent, delivered, reported, agreed, has_reported}
 use Rattle.kin_history.specs.Vectors.{cuts, vector, committed, unreported_part, uncommitted_part}
 use Rattle.kin_history.specs.Mining.{mined, is_open}
 use Rattle.kin_history.specs.Drain.{drain, drain_commits}

@@ -1,19 +1,19 @@
 -- The world and the text of a job.
-use Rattle.std.proofs.Common.{◌≡◌, ℕ, ◌+◌, ◌-◌, ◌<◌, ◌≤◌, List, [], ◌∷◌, ◌++◌, length, take, slice_index_or, sym, ap, ap₂, subst, ◌∙◌, arith, codes}
+use Rattle.std.proofs.Common.{◌≡◌, ℕ, ◌-◌, ◌<◌, ◌≤◌, List, [], ◌∷◌, ◌++◌, length, take, slice_index_or, sym, ap, ap₂, subst, ◌∙◌, arith, codes}
 use Rattle.std.specs.List.{count_by}
 use Rattle.kin_ids.specs.declared.ops.Record.{Record}
 use Rattle.kin_ids.specs.Operations.{is_bad}
 use Rattle.kin_ids.specs.Graph.{Graph, vertices}
-use Rattle.kin_ids.specs.Order.{between, snapshot}
+use Rattle.kin_ids.specs.Order.{between}
 use Rattle.kin_ids.specs.Parts.{IsPart}
-use Rattle.kin_graph.specs.State.{PartState, view_of}
+use Rattle.kin_graph.specs.State.{view_of}
 use Rattle.kin_rules.specs.declared.numbers.UserNumber.{UserNumber}
 use Rattle.kin_rules.specs.Counts.{in_count}
 use Rattle.kin_rules.specs.Top.{top_users, numbered_users}
 use Rattle.kin_rules.proofs.Entries.{any-order, vertices-once}
 use Rattle.kin_report.specs.Block.{user_lines}
 use Rattle.kin_replay.specs.declared.worlds.World.{World}
-use Rattle.kin_replay.specs.FirstRun.{first_graph, first_text, first_vector, epoch_text}
+use Rattle.kin_replay.specs.FirstRun.{first_graph, first_text, epoch_text}
 use Rattle.kin_replay.specs.FirstEnds.{StandsFor}
 use Rattle.kin_replay.specs.StoreCounts.{AreParts, AreCounts}
 use Rattle.kin_replay.proofs.FirstReport.{position-is, graph-is}

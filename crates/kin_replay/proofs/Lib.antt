@@ -3,3 +3,4 @@ pub mod PartCounts
 pub mod FirstStory
 pub mod FirstReport
 pub mod FirstWorld
+pub mod FeedRows

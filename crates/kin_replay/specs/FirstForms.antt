@@ -1,6 +1,5 @@
 -- What the reader of words hands out.
-use Rattle.std.specs.Prelude.{ℕ, List, Option, option_map, map, string_bytes, String}
-use denote.Ref.{Bor}
+use Rattle.std.specs.Prelude.{List, Option, option_map, map, string_bytes, String}
 use Rattle.kin_replay.specs.declared.words.Form.{Form}
 use Rattle.kin_replay.specs.FirstWords.{form_of}
 use Rattle.kin_replay.specs.FirstWords as words

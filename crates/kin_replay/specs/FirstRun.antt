@@ -2,10 +2,8 @@
 use Rattle.std.specs.Prelude.{ℕ, zero, suc, List, [], ◌∷◌, ◌++◌, true, false, take, count_by, codes}
 use Rattle.std.specs.Fmt.{decimal}
 use Rattle.kin_ids.specs.declared.ops.Record.{Record}
-use Rattle.kin_ids.specs.declared.options.RuleSet.{RuleSet}
 use Rattle.kin_ids.specs.declared.options.OptionWords.{OptionWords}
 use Rattle.kin_script.specs.declared.events.Event.{Event}
-use Rattle.kin_script.specs.declared.events.Event.TheVariants as event
 use Rattle.kin_script.specs.declared.events.Line.{Line}
 use Rattle.kin_history.specs.Setting.{Setting, after}
 use Rattle.kin_history.specs.Vectors.{vector}

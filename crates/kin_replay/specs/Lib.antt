@@ -5,3 +5,4 @@ pub mod FirstSchedule
 pub mod FirstEnds
 pub mod StoreCounts
 pub mod Refusals
+pub mod FeedRows

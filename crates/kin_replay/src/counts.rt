@@ -15,7 +15,10 @@ use std::sync::ledger::{Blank, Ledger};
 fn in_count<V: View, L: Ledger>(view: &V, u: User, steps: &mut Steps<L>) -> u64
     ensures { result ≡ seen_count (V.seen view.now) u }
 {
-    view.inn(u, steps).iter().filter(|half| half.present).count() as u64
+    view.inn(u, steps)
+        .iter()
+        .filter(|half| half.present)
+        .count() as u64
 }
 
 // Appends each of these users with its number.

@@ -5,7 +5,11 @@ mod counts;
 mod jobs;
 mod refusals;
 mod reports;
+pub mod rows;
 pub mod runs;
 pub mod schedules;
 pub mod words;
 pub mod worlds;
+
+pub use runs::{Run, replay};
+pub use worlds::World;

@@ -76,12 +76,7 @@ fn run_job<O: Sink>(alloc: Global, parts: u16, job: &Job, out: &mut O) -> Run
 
 /// Runs the one form of the command that is built: reads the feed, then the schedule, splits the transaction over the partitions,
 /// applies and counts, and writes the epoch's block. Its cost is linear in the bytes that it reads.
-pub fn replay<F: Shelf, O: Sink>(
-    alloc: Global,
-    words: &[String],
-    shelf: &mut F,
-    out: &mut O,
-) -> Run
+pub fn replay<F: Shelf, O: Sink>(alloc: Global, words: &[String], shelf: &mut F, out: &mut O) -> Run
     // At Done all of the report was written, and the world stands for its history.
     ensures done { result.status ≡ Status.Done → ends.HasRun (asked words.now) (F.content shelf.old) (Grew (O.taken out.old) (O.taken out.new)) result.world }
     ensures flushed { result.status ≡ Status.Done → O.flushed out.new ≡ option_map (λ _. true) (O.flushed out.old) }

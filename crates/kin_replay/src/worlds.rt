@@ -1,10 +1,10 @@
 //! What stands after a run.
 
-ghost use Rattle.std.specs.Prelude.{◌≡◌, ◌<◌, ◌≤◌, IfOk, OnOk, length, take};
+ghost use Rattle.std.specs.Prelude.{◌≡◌, ◌<◌, ◌≤◌, IfOk, All, length};
 ghost use Rattle.kin_ids.specs.Graph.{empty_graph};
 ghost use Rattle.kin_ids.specs.Order.{entries, folded};
-ghost use Rattle.kin_ids.specs.Parts.{ops_applied};
-ghost use Rattle.kin_graph.specs.State.{empty_part, view_of};
+ghost use Rattle.kin_ids.specs.Operations.{op_part};
+ghost use Rattle.kin_graph.specs.State.{after, empty_part, view_of};
 ghost use Rattle.kin_replay.specs.FirstRun.{first_graph};
 ghost use Rattle.kin_replay.specs.FirstEnds.{StandsFor};
 ghost use Rattle.kin_replay.specs.StoreCounts.{AreParts};
@@ -24,10 +24,15 @@ pub struct World {
 
 // The store of a partition with one piece, of epoch 1.
 fn store_of(alloc: Global, parts: u16, piece: &Piece) -> Result<PartGraph, Memory>
-    requires { piece.now.part.0 < parts }
-    ensures { IfOk result (λ store. view_of store ≡ ops_applied 1 piece.now.stamp.ingest.0 (view_of (empty_part piece.now.part.0 parts)) piece.now.ops) }
+    requires within { piece.now.part.0 < parts }
+    requires home { All (λ x. op_part parts x.op ≡ piece.now.part.0) piece.now.ops }
+    ensures { IfOk result (λ store. view_of store ≡ after 1 piece.now (view_of (empty_part piece.now.part.0 parts))) }
 {
-    Err(Memory)
+    // For the proof: a slice has fewer than 2^64 items, so no user is mentioned more often.
+    let _ops = piece.ops.as_slice();
+    let mut store = PartGraph::new(alloc, piece.part, parts)?;
+    store.apply(Epoch(1), piece)?;
+    Ok(store)
 }
 
 /// The stores of the partitions after one transaction of node 0 with these records, in epoch 1.

@@ -1,7 +1,6 @@
-use Rattle.std.proofs.Common.{◌≡◌, ℕ, length, arith, subst, sym, List}
+use Rattle.std.proofs.Common.{◌≡◌, ℕ, length, arith, subst, sym}
 use Rattle.kin_ids.specs.Parts.{IsPart}
 use Rattle.kin_graph.specs.State.{PartState, view_of}
-use Rattle.kin_rules.specs.declared.numbers.UserNumber.{UserNumber}
 use Rattle.kin_replay.proofs.PartCounts.{AreCountsBelow, none-below, more-below, all-below}
 use Rattle.kin_replay.proofs.counts.counts_by.Goals as goal
 

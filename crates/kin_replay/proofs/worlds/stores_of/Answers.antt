@@ -1,4 +1,4 @@
-use Rattle.std.proofs.Common.{◌≡◌, ◌<◌, ℕ, List, length, get_or, arith, refl, subst, sym, ap, ◌∙◌, length-append, ◌∷◌, []}
+use Rattle.std.proofs.Common.{◌≡◌, ◌<◌, ℕ, List, length, get_or, arith, refl, subst, sym, ap, length-append, ◌∷◌, []}
 use Rattle.kin_ids.specs.declared.stamps.Stamp.{Stamp}
 use Rattle.kin_ids.specs.declared.ops.Piece.{Piece}
 use Rattle.kin_ids.specs.Graph.{Graph, empty_graph}
@@ -6,8 +6,17 @@ use Rattle.kin_ids.specs.Order.{entries, folded}
 use Rattle.kin_ids.specs.Parts.{IsPart}
 use Rattle.kin_ops.specs.Pieces.{IsPieceOf}
 use Rattle.kin_graph.specs.State.{PartState, view_of}
-use Rattle.kin_replay.proofs.WorldParts.{piece-part, parts-push}
+use Rattle.kin_replay.proofs.WorldParts.{piece-at, piece-home, piece-part, parts-push}
 use Rattle.kin_replay.proofs.worlds.stores_of.Goals as goal
+
+pub store_of-requires-clause-home : goal.store_of-requires-clause-home
+store_of-requires-clause-home c =
+    let parts = c.args.parts in
+    let records = c.args.records.now in
+    let i = c.loop-piece.piece-index in
+    let x : Piece = c.piece-item.result in
+    let within : i < parts = omega (arith, c.in_ok-all.ensures.count, c.deref-piece-items.ensures.len, c.loop-piece-test.true) in
+    piece-home parts i _ records x (piece-at parts i _ records x c.in_ok-all.all.items c.deref-piece-items.result.now c.in_ok-all.ensures.each c.piece-item.is c.deref-piece-items.ensures.value within)
 
 pub loop-piece-preserved : goal.loop-piece-preserved
 loop-piece-preserved c =
@@ -19,8 +28,7 @@ loop-piece-preserved c =
     let x : Piece = c.piece-item.result in
     let s : Stamp = record { ingest = record { 0 = 0 }; inc = record { 0 = 0 }; from = 0; to = length records } in
     let within : i < parts = omega (arith, c.in_ok-all.ensures.count, c.deref-piece-items.ensures.len, c.loop-piece-test.true) in
-    let at : x ≡ get_or c.in_ok-all.all.items i x = c.piece-item.is ∙ ap (λ (xs : List Piece). get_or xs i x) c.deref-piece-items.ensures.value in
-    let piece : IsPieceOf parts s 0 records i x = subst (IsPieceOf parts s 0 records i) (sym at) (c.in_ok-all.ensures.each i x within) in
+    let piece : IsPieceOf parts s 0 records i x = piece-at parts i s records x c.in_ok-all.all.items c.deref-piece-items.result.now c.in_ok-all.ensures.each c.piece-item.is c.deref-piece-items.ensures.value within in
     let part : IsPart parts i g (view_of c.in_ok-store_of.field-0) = piece-part parts i s records x (view_of c.in_ok-store_of.field-0) refl refl piece c.in_ok-store_of.ensures in
     let all = parts-push parts i g c.loop-piece.stores.items c.in_ok-store_of.field-0 inv.count inv.parts part in
     record {

@@ -1,0 +1,56 @@
+//! The program `kineo`: a graph engine over feeds of follow, unfollow and tweet records.
+#![tactic(auto)]
+
+use kin_ids::Status;
+use kin_io::{FileShelf, StdSink};
+use kin_replay::replay;
+use std::process::ExitCode;
+use std::rt::{Env, Files};
+use std::{env, io};
+
+// The words of the command line after the program's name. One that isn't UTF-8 asks for what isn't built.
+fn words_of<R: Env + Alloc>(rt: &R) -> Result<Vec<String>, Status> {
+    match env::args(rt) {
+        Ok(args) => args
+            .skip(1)
+            .collect(rt.alloc())
+            .map_err(|_| Status::Memory),
+        Err(error) if error.kind() == io::ErrorKind::InvalidData => Err(Status::NotBuilt),
+        Err(_) => Err(Status::Memory),
+    }
+}
+
+// Runs the command that the first word picks.
+fn run<R: Files + Print + Alloc>(rt: &R, words: &[String]) -> Status {
+    match words {
+        [first, rest @ ..] if first.as_str() == "replay" => replay(
+            rt.alloc(),
+            rest,
+            &mut FileShelf::new(rt),
+            &mut StdSink::new(rt),
+        )
+        .status,
+        _ => Status::NotBuilt,
+    }
+}
+
+// What standard error shows of a status.
+fn complain<R: Eprint>(rt: &R, status: Status) -> io::Result<()> {
+    match status {
+        Status::Done => Ok(()),
+        Status::Read => eprintln!(rt; "kineo: cannot read"),
+        Status::Write => eprintln!(rt; "kineo: cannot write"),
+        Status::Memory => eprintln!(rt; "kineo: no memory"),
+        Status::NotBuilt => eprintln!(rt; "kineo: not built"),
+    }
+}
+
+fn main(rt: HostRuntime) -> ExitCode {
+    let status = match words_of(&rt) {
+        Ok(words) => run(&rt, words.as_slice()),
+        Err(status) => status,
+    };
+    // Where standard error fails as well, the exit status still tells.
+    let _ = complain(&rt, status);
+    ExitCode::from(status.exit())
+}
