@@ -11,10 +11,7 @@ use std::{env, io};
 // The words of the command line after the program's name. One that isn't UTF-8 asks for what isn't built.
 fn words_of<R: Env + Alloc>(rt: &R) -> Result<Vec<String>, Status> {
     match env::args(rt) {
-        Ok(args) => args
-            .skip(1)
-            .collect(rt.alloc())
-            .map_err(|_| Status::Memory),
+        Ok(args) => args.skip(1).collect(rt.alloc()).map_err(|_| Status::Memory),
         Err(error) if error.kind() == io::ErrorKind::InvalidData => Err(Status::NotBuilt),
         Err(_) => Err(Status::Memory),
     }
