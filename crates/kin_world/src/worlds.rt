@@ -80,6 +80,7 @@ impl World {
         self.core.parts
     }
 
+    /// The node of a feed.
     pub fn ingest(&self, i: IngestId) -> &Ingest
         requires { i.0 < length self.now.feeds }
         ensures { result.now ≡ node_at self.now i.0 }
@@ -87,6 +88,7 @@ impl World {
         &self.core.ingests[usize::from(i.0)]
     }
 
+    /// The partitions and the progress table.
     pub fn hub(&self) -> &Hub
         ensures { result.now ≡ self.now.hub }
     {
