@@ -13,4 +13,5 @@ pub mod Restarting
 pub mod Taking
 pub mod Delivering
 pub mod Running
+pub mod Unchanged
 pub mod Opening

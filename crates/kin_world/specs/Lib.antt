@@ -5,3 +5,4 @@ pub mod Opens
 pub mod Steps
 pub mod Stands
 pub mod Runs
+pub mod Laws

@@ -3,7 +3,9 @@ use Rattle.std.specs.Prelude.{ℕ, ◌≡◌, true, List, [], length, slice_inde
 use Rattle.kin_ids.specs.declared.ops.Record.{Record}
 use Rattle.kin_ingest.specs.declared.ingests.Ingest.{Ingest}
 use Rattle.kin_script.specs.declared.events.Event.{Event}
+use Rattle.kin_script.specs.declared.outcomes.Outcome.{Outcome}
 use Rattle.kin_script.specs.declared.events.Event.TheVariants as event
+use Rattle.kin_script.specs.declared.outcomes.Outcome.TheVariants as outcome
 use Rattle.kin_history.specs.Setting.{Setting}
 use Rattle.kin_hub.specs.Hubs.{HubView, parts_in, nodes_in}
 use Rattle.kin_world.specs.declared.sent_logs.Sent.{Sent}
@@ -45,3 +47,8 @@ IsBuilt (event.Commit p) = ⊥
 IsBuilt event.Begin = ⊥
 IsBuilt (event.Turn u) = ⊥
 IsBuilt event.Mine = ⊥
+
+-- a refused event changes nothing
+abbrev pub KeptWhereRefused : WorldView → Outcome → WorldView → Type 0
+KeptWhereRefused old (outcome.Refused why) new = new ≡ old
+KeptWhereRefused old _ new = Unit {0}

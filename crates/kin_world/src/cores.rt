@@ -45,7 +45,7 @@ impl Core {
     ghost use Rattle.kin_hub.specs.Hubs.{agreed_in};
     ghost use Rattle.kin_hub.specs.Goes.{HubKeeps, HubRaises};
     ghost use Rattle.kin_world.specs.SentStamps.{find_sent};
-    ghost use Rattle.kin_world.specs.Worlds.{IsWorld, IsBuilt, setting_of};
+    ghost use Rattle.kin_world.specs.Worlds.{IsWorld, IsBuilt, KeptWhereRefused, setting_of};
     ghost use Rattle.kin_world.specs.Steps.{Stamps, Crashes, Restarts, MayRestart, IsStamped, IsPieceFor, Delivers};
     ghost use Rattle.kin_world.specs.Stands.{Stands, HasStory, Keeps};
 
@@ -74,6 +74,7 @@ impl Core {
         requires built { IsBuilt event }
         requires story { HasStory self.old }
         ensures keeps { IfOk result (λ outcome. Keeps self.old event outcome self.new) }
+        ensures refused { IfOk result (λ outcome. KeptWhereRefused self.old outcome self.new) }
         ensures err { OnErr result (self.new ≡ self.old) }
     {
         match event {

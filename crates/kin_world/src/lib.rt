@@ -2,6 +2,7 @@
 #![tactic(auto)]
 
 mod cores;
+pub mod laws;
 pub mod runs;
 pub mod sent_logs;
 mod told;
@@ -10,3 +11,6 @@ pub mod worlds;
 pub use runs::run;
 pub use sent_logs::{Sent, SentLog};
 pub use worlds::World;
+
+#[cfg(test)]
+mod tests;

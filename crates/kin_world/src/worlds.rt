@@ -35,7 +35,7 @@ impl Model for World {
 impl World {
     ghost use Rattle.kin_history.specs.Setting.{IsEvent};
     ghost use Rattle.kin_world.specs.SentStamps.{find_sent};
-    ghost use Rattle.kin_world.specs.Worlds.{IsBuilt, setting_of, node_at};
+    ghost use Rattle.kin_world.specs.Worlds.{IsBuilt, KeptWhereRefused, setting_of, node_at};
     ghost use Rattle.kin_world.specs.Stands.{Stands, Keeps};
 
     /// Nothing happened yet. It costs O(n) in the nodes of all partitions.
@@ -60,6 +60,7 @@ impl World {
         requires event { IsEvent (setting_of self.old) event }
         requires built { IsBuilt event }
         ensures keeps { IfOk result (λ outcome. Keeps self.old event outcome self.new) }
+        ensures refused { IfOk result (λ outcome. KeptWhereRefused self.old outcome self.new) }
         ensures setting { OnOk result (setting_of self.new ≡ setting_of self.old) }
         ensures err { OnErr result (self.new ≡ self.old) }
     {

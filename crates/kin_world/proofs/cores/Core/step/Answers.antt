@@ -7,6 +7,7 @@ use Rattle.kin_world.specs.Steps.{Stamps, Delivers, told_raise}
 use Rattle.kin_world.specs.Stands.{Keeps}
 use Rattle.kin_world.proofs.Facts.{node_in}
 use Rattle.kin_world.proofs.Running.{if_ok}
+use Rattle.kin_world.proofs.Unchanged.{stamp-kept, deliver-kept, raise-kept, crash-kept, restart-kept}
 use Rattle.kin_world.proofs.Stamping.{stamp-keeps}
 use Rattle.kin_world.proofs.Delivering.{deliver-keeps}
 use Rattle.kin_world.proofs.Reports.{report-keeps}
@@ -55,3 +56,22 @@ pub returns-in-Restart-clause-keeps : goal.returns-in-Restart-clause-keeps
 returns-in-Restart-clause-keeps c =
     let legal = rw c.in-Restart.is at c.requires.event in
     rw c.in-Restart.is (restart-keeps c.args.self.now c.in-Restart.ingest c.restart.result c.restart.new.self legal c.restart.ensures.restarts)
+
+pub returns-in-Stamp-clause-refused : goal.returns-in-Stamp-clause-refused
+returns-in-Stamp-clause-refused c =
+    if_ok c.stamp.result _ _ (λ o made. stamp-kept c.args.self.now c.in-Stamp.ingest.0 c.in-Stamp.n o c.stamp.new.self made) c.stamp.ensures.stamps
+
+pub returns-in-Deliver-clause-refused : goal.returns-in-Deliver-clause-refused
+returns-in-Deliver-clause-refused c =
+    let old = c.args.self.now in
+    let e = c.in-Deliver in
+    if_ok c.deliver.result _ _ (λ o delivers. deliver-kept old e.part.0 (find_sent old.sent e.ingest.0 e.inc.0 e.to) o c.deliver.new.self delivers) c.deliver.ensures.delivers
+
+pub returns-in-Raise-clause-refused : goal.returns-in-Raise-clause-refused
+returns-in-Raise-clause-refused c = raise-kept c.args.self.now c.raise.result c.told_raise.result _ c.told_raise.ensures
+
+pub returns-in-Crash-clause-refused : goal.returns-in-Crash-clause-refused
+returns-in-Crash-clause-refused c = crash-kept c.args.self.now c.in-Crash.ingest.0 c.crash.result c.crash.new.self c.crash.ensures.crashes
+
+pub returns-in-Restart-clause-refused : goal.returns-in-Restart-clause-refused
+returns-in-Restart-clause-refused c = restart-kept c.args.self.now c.in-Restart.ingest.0 c.restart.result c.restart.new.self c.restart.ensures.restarts
