@@ -4,12 +4,13 @@
 use kin_ids::Status;
 use kin_io::{FileShelf, StdSink};
 use kin_replay::replay;
+use std::alloc::Global;
 use std::process::ExitCode;
 use std::rt::{Env, Files};
 use std::{env, io};
 
 // The words of the command line after the program's name. One that isn't UTF-8 asks for what isn't built.
-fn words_of<R: Env + Alloc>(rt: &R) -> Result<Vec<String>, Status> {
+fn words_of<R: Env + Alloc<A = Global>>(rt: &R) -> Result<Vec<String>, Status> {
     match env::args(rt) {
         Ok(args) => args.skip(1).collect(rt.alloc()).map_err(|_| Status::Memory),
         Err(error) if error.kind() == io::ErrorKind::InvalidData => Err(Status::NotBuilt),
@@ -18,7 +19,7 @@ fn words_of<R: Env + Alloc>(rt: &R) -> Result<Vec<String>, Status> {
 }
 
 // Runs the command that the first word picks.
-fn run<R: Files + Print + Alloc>(rt: &R, words: &[String]) -> Status {
+fn run<R: Files + Print + Alloc<A = Global>>(rt: &R, words: &[String]) -> Status {
     match words {
         [first, rest @ ..] if first.as_str() == "replay" => replay(
             rt.alloc(),
