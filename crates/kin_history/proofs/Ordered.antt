@@ -7,6 +7,7 @@ use Rattle.kin_ids.specs.Graph.{empty_graph}
 use Rattle.kin_ids.specs.Order.{feed_at, entries, between, of_epoch, order, folded, within}
 use Rattle.kin_ids.specs.Records.{DoNotFall, joined}
 use Rattle.kin_ids.proofs.Lines.{line_grows, upto-line, upto-ends, upto-end, past-line}
+use Rattle.kin_ids.proofs.Alike.{order-alike}
 use Rattle.kin_ids.proofs.Joins.{between-none, between-front, entries-split, joined-is, past-end_of}
 use Rattle.kin_ids.proofs.Orders.{order-law}
 use Rattle.kin_script.specs.declared.events.Event.{Event}
@@ -34,15 +35,6 @@ between-entries e i feed ss was now l from to le =
     let inside = upto-ends 0 now was ss l from le in
     line-entries e i feed was (past was (upto now ss)) (past-line 0 was (upto now ss) front inside)
     ∙ ap (λ (n : ℕ). entries e i was (between feed was n)) (past-end_of 0 was (upto now ss) front inside ∙ upto-end 0 now ss l to)
-
--- vectors that agree on the nodes give one order
-of_epoch-alike : (feeds : List (List Record)) (e : ℕ) (a b c d : ℕ → ℕ) (n : ℕ) → ((i : ℕ) → i < n → a i ≡ c i) → ((i : ℕ) → i < n → b i ≡ d i) → of_epoch feeds e a b n ≡ of_epoch feeds e c d n
-of_epoch-alike feeds e a b c d zero f g = refl
-of_epoch-alike feeds e a b c d (suc n) f g = rw (of_epoch-alike feeds e a b c d n (λ i lt. f i (omega arith)) (λ i lt. g i (omega arith)), f n (omega arith), g n (omega arith)) refl
-
-pub order-alike : (feeds : List (List Record)) (U V : ℕ → ℕ → ℕ) (k : ℕ) → ((j i : ℕ) → j ≤ k → i < length feeds → U j i ≡ V j i) → order feeds U k ≡ order feeds V k
-order-alike feeds U V zero same = refl
-order-alike feeds U V (suc k) same = rw (order-alike feeds U V k (λ j i le lt. same j i (omega arith) lt), of_epoch-alike feeds (suc k) (U k) (U (suc k)) (V k) (V (suc k)) (length feeds) (λ i lt. same k i (omega arith) lt) (λ i lt. same (suc k) i (omega arith) lt)) refl
 
 module _ (set : Setting) (h : List Event) (some : 0 < set.parts) (legal : IsHistory set h) where
   not-falling : (k : ℕ) → k ≤ cuts set h → DoNotFall set.feeds (vector set h) k

@@ -12,3 +12,4 @@ pub mod Whole
 pub mod Halves
 pub mod Shares
 pub mod Runs
+pub mod Alike

@@ -9,6 +9,7 @@ pub mod Graph
 pub mod Order
 pub mod Follows
 pub mod Records
+pub mod Sizes
 pub mod Operations
 pub mod Exits
 pub mod Parts
