@@ -3,3 +3,4 @@ mod RowSteps
 mod BadCounts
 mod Fields
 mod ItemLists
+mod Small

@@ -1,8 +1,9 @@
 //! A feed and its records.
 
-ghost use Rattle.std.specs.Prelude.{◌≡◌, ◌<◌, ◌≤◌, ◌^◌, ◌++◌, [], ◌∷◌, ℕ, List, take, length, count_by, IfOk, OnOk, OnErr, IsErrOf};
+ghost use Rattle.std.specs.Prelude.{◌≡◌, ◌<◌, ◌≤◌, ◌^◌, ◌++◌, [], ◌∷◌, ℕ, List, All, take, length, count_by, IfOk, OnOk, OnErr, IsErrOf};
 ghost use Rattle.kin_ids.specs.Order.{between};
 ghost use Rattle.kin_ids.specs.Operations.{is_bad};
+ghost use Rattle.kin_ids.specs.Sizes.{IsSmall};
 ghost use Rattle.kin_feed.specs.Records.{records_of};
 ghost use Rattle.kin_feed.specs.BadIndex.{bad_numbers};
 
@@ -14,7 +15,7 @@ use kin_ids::{Memory, Record};
 use std::alloc::Global;
 use std::marker::Model;
 
-/// The records of a feed, seen as their list.
+/// The records of a feed, seen as their list. No tweet has more than 16 items.
 #[derive(Drop)]
 pub struct Feed {
     all: Vec<Record>,
@@ -23,21 +24,22 @@ pub struct Feed {
 }
 
 impl Model for Feed {
-    ghost use Rattle.std.specs.Prelude.{◌≡◌, List};
+    ghost use Rattle.std.specs.Prelude.{List};
     ghost use Rattle.kin_ids.specs.declared.ops.Record.{Record};
-    ghost use Rattle.kin_feed.specs.BadIndex.{bad_numbers};
+    ghost use Rattle.kin_feed.specs.BadIndex.{IsFeed};
 
     ghost Value = { List Record };
 
     ghost view = { λ a. a.all.items };
 
-    ghost invariant = { λ a. a.bad.items ≡ bad_numbers 0 a.all.items };
+    ghost invariant = { λ a. IsFeed a.all.items a.bad.items };
 }
 
 impl Feed {
     /// How many records it has.
     pub fn len(&self) -> u64
-        ensures { result ≡ length self.now }
+        ensures count { result ≡ length self.now }
+        ensures small { All IsSmall self.now }
     {
         self.all.len() as u64
     }
@@ -60,7 +62,8 @@ impl Feed {
 
     /// The records in order. Record n stands at place n - 1.
     pub fn records(&self) -> &[Record]
-        ensures { result.now ≡ self.now }
+        ensures records { result.now ≡ self.now }
+        ensures small { All IsSmall self.now }
     {
         self.all.as_slice()
     }

@@ -4,6 +4,7 @@ use Rattle.csv.specs.Records.{fields_of}
 use Rattle.kin_ids.specs.declared.ops.Record.{Record}
 use Rattle.kin_feed.specs.Records.{record_of, rows_of}
 use Rattle.kin_feed.specs.RowsRead.{HasRead}
+use Rattle.kin_feed.proofs.Small.{small_rows}
 use Rattle.kin_feed.proofs.RowSteps.{one_of_all, one_of_bytes, fed_more}
 use Rattle.kin_feed.proofs.feeds.read_feed.Goals as goal
 
@@ -38,6 +39,9 @@ loop-bad-smaller c =
     let more : HasRead c.args.bytes.now (inv.rows ++ row ∷ []) c.next_row.new.reader = rw c.if-branch.true at (c.in_ok-next_row.ensures c.args.bytes.now inv.rows inv.read) in
     let grew : length c.push.new.all.items ≡ length c.loop-bad.all.items + 1 = omega (arith, ap (λ (t : List Record). length t) c.in_ok-push.ensures, length-append c.loop-bad.all.items (c.in_ok-record.record ∷ [])) in
     omega (arith, one_of_bytes _ inv.rows row _ more, grew, ap (λ (t : List Record). length t) inv.records, length-map inv.rows record_of)
+
+pub invariant_of-result : goal.invariant_of-result
+invariant_of-result c = let inv = c.loop-bad.invariant in record { bad = inv.bad; small = rw inv.records (small_rows inv.rows) }
 
 pub returns-clause-ok : goal.returns-clause-ok
 returns-clause-ok c =
