@@ -103,7 +103,8 @@ impl Held {
     }
 
     /// Lets go of the pieces of node `i` up to a place of its chain, which is its floor then. It costs
-    /// O(log n), what it drops, and a move of what stays.
+    /// O(log n) and, over all calls, what is let go of. Pieces that were let go of may stay in memory
+    /// until they come to more than those of the chain.
     pub fn forget(&mut self, i: IngestId, to: u64)
         requires node { i.0 < length self.old }
         requires place { IsPlace (chain_at self.old i.0) to }

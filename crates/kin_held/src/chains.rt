@@ -1,6 +1,6 @@
 //! One node's chain.
 
-ghost use Rattle.std.specs.Prelude.{◌≡◌, ◌+◌, ◌≤◌, ◌<◌, ◌++◌, ◌∷◌, List, All, IfOk, OnErr, length, take, drop, vec_len, vec_capacity};
+ghost use Rattle.std.specs.Prelude.{◌≡◌, ◌+◌, ◌≤◌, ◌<◌, ◌++◌, ◌∷◌, List, All, IfOk, OnErr, length, take, drop};
 ghost use Rattle.kin_ids.specs.declared.ops.Piece.{Piece};
 ghost use Rattle.kin_ids.specs.Operations.{IsWellFormed};
 ghost use Rattle.kin_held.specs.Early.{IsAscending};
@@ -8,6 +8,7 @@ ghost use Rattle.kin_held.specs.Takes.{Joins};
 
 use crate::answers::Taken;
 use crate::early::EarlyPieces;
+use crate::queues::Queue;
 use crate::runs::{len_to, upto_len};
 use kin_ids::{Inc, Memory, Piece};
 use std::alloc::Global;
@@ -19,7 +20,7 @@ pub(crate) struct Chain {
     inc: Inc,
     floor: u64,
     top: u64,
-    held: Vec<Piece>,
+    held: Queue,
     early: EarlyPieces,
 }
 
@@ -45,7 +46,7 @@ impl Chain {
             inc: Inc(0),
             floor: 0,
             top: 0,
-            held: Vec::new(alloc),
+            held: Queue::new(alloc),
             early: EarlyPieces::new(alloc),
         }
     }
@@ -72,7 +73,7 @@ impl Chain {
         ensures held { result.now ≡ self.now.held }
         ensures chain { IsChain self.now }
     {
-        &self.held
+        self.held.as_slice()
     }
 
     pub fn count_upto(&self, at: u64) -> usize
@@ -80,7 +81,7 @@ impl Chain {
         ensures front { take result self.now.held ≡ pieces_upto at self.now.held }
         ensures rest { drop result self.now.held ≡ pieces_past at self.now.held }
     {
-        upto_len(&self.held, at)
+        upto_len(self.held.as_slice(), at)
     }
 
     pub fn take(&mut self, piece: Piece) -> Result<Taken, Memory>
@@ -99,13 +100,14 @@ impl Chain {
         self.place(piece)
     }
 
+    /// Lets go of the pieces up to a place. It costs O(log n) and, over all calls, what is let go of.
     pub fn forget(&mut self, to: u64)
         requires { IsPlace self.old to }
         ensures forgot { self.new ≡ chain_past self.old to }
         ensures chain { IsChain self.new }
     {
         let count = self.count_upto(to);
-        drop(self.held.drain(..count));
+        self.held.drop_front(count);
         self.floor = to;
     }
 
@@ -119,7 +121,7 @@ impl Chain {
     {
         let stamp = piece.stamp;
         let base = piece.base;
-        let Some(kept) = len_to(self.floor, &self.held, base) else {
+        let Some(kept) = len_to(self.floor, self.held.as_slice(), base) else {
             return Ok(Taken::Adrift {
                 base,
                 floor: self.floor,
@@ -135,7 +137,7 @@ impl Chain {
         }
         self.held.reserve(1)?;
         self.held.truncate(kept);
-        self.held.push(piece).unwrap();
+        self.held.push_reserved(piece);
         self.early.clear();
         self.inc = stamp.inc;
         self.top = stamp.to;
@@ -155,7 +157,7 @@ impl Chain {
         }
         if stamp.from == self.top {
             self.held.reserve(self.early.len() + 1)?;
-            self.held.push(piece).unwrap();
+            self.held.push_reserved(piece);
             self.top = join(&mut self.held, &mut self.early, stamp.to);
             return Ok(Taken::Held(self.top));
         }
@@ -168,8 +170,8 @@ impl Chain {
 }
 
 // Moves to the end of the chain each early piece that begins at the top then reached.
-fn join(held: &mut Vec<Piece>, early: &mut EarlyPieces, from: u64) -> u64
-    requires room { vec_len held.old + length early.old ≤ vec_capacity held.old }
+fn join(held: &mut Queue, early: &mut EarlyPieces, from: u64) -> u64
+    requires room { length early.old ≤ held.old.room }
     requires formed { All IsWellFormed early.old }
     ensures joins { (joined : List Piece) × (held.new.items ≡ held.old.items ++ joined)
         × Joins from early.old joined early.new result }
@@ -178,7 +180,7 @@ fn join(held: &mut Vec<Piece>, early: &mut EarlyPieces, from: u64) -> u64
     let mut top = from;
     while let Some(next) = early.remove(top) {
         top = next.stamp.to;
-        held.push(next).unwrap();
+        held.push_reserved(next);
     }
     top
 }

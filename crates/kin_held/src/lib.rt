@@ -5,6 +5,7 @@ pub mod answers;
 pub mod by_node;
 mod chains;
 mod early;
+mod queues;
 mod runs;
 
 pub use answers::Taken;

@@ -20,8 +20,8 @@ pub invariant_of-self-then-stamp-base : goal.invariant_of-self-then-stamp-base
 invariant_of-self-then-stamp-base c =
     let old = c.self.inside in
     let piece = c.args.piece in
-    let place : IsEnd old.floor (stamps_of old.held.items) piece.base = rw c.deref.ensures.value at c.in-Some.ensures.place in
-    let cut : c.truncate.new.self.items ≡ pieces_upto piece.base old.held.items = c.truncate.ensures.items ∙ rw c.deref.ensures.value at c.in-Some.ensures.front in
+    let place : IsEnd old.floor (stamps_of old.held.items) piece.base = rw c.as_slice.ensures at c.in-Some.ensures.place in
+    let cut : c.truncate.new.self.items ≡ pieces_upto piece.base old.held.items = c.truncate.ensures.items ∙ rw c.as_slice.ensures at c.in-Some.ensures.front in
     record {
       run = rw cut (IsRun-pieces_upto old.floor piece.base old.top old.held.items c.self.invariant.run place);
       formed = rw c.in_ok-keep_only.ensures.ok (All-cons IsWellFormed piece [] c.requires.formed (All-nil IsWellFormed));
@@ -34,8 +34,8 @@ returns-then-stamp-base-clause-taken c =
     let old = c.self.inside in
     let piece = c.args.piece in
     let new : ChainView = chain_of piece.stamp.inc.0 old.floor piece.base c.truncate.new.self.items c.keep_only.new.self in
-    let place : IsEnd old.floor (stamps_of old.held.items) piece.base = rw c.deref.ensures.value at c.in-Some.ensures.place in
-    let cut : c.truncate.new.self.items ≡ pieces_upto piece.base old.held.items = c.truncate.ensures.items ∙ rw c.deref.ensures.value at c.in-Some.ensures.front in
+    let place : IsEnd old.floor (stamps_of old.held.items) piece.base = rw c.as_slice.ensures at c.in-Some.ensures.place in
+    let cut : c.truncate.new.self.items ≡ pieces_upto piece.base old.held.items = c.truncate.ensures.items ∙ rw c.as_slice.ensures at c.in-Some.ensures.front in
     let later : old.inc.0 < piece.stamp.inc.0 = subst (λ (v : ChainView). v.inc < piece.stamp.inc.0) (sym c.self.view_is) c.requires.later in
     let past : piece.base < piece.stamp.to = (let a = c.requires.formed.after_base in let b = c.requires.formed.some in omega arith) in
     subst (λ (v : ChainView). Enters v piece (Early piece.base) new) c.self.view_is (inr (
@@ -60,10 +60,10 @@ pub invariant_of-self-2 : goal.invariant_of-self-2
 invariant_of-self-2 c =
     let old = c.self.inside in
     let piece = c.args.piece in
-    let place : IsEnd old.floor (stamps_of old.held.items) piece.base = rw c.deref.ensures.value at c.in-Some.ensures.place in
-    let front = rw c.deref.ensures.value at c.in-Some.ensures.front in
+    let place : IsEnd old.floor (stamps_of old.held.items) piece.base = rw c.as_slice.ensures at c.in-Some.ensures.place in
+    let front = rw c.as_slice.ensures at c.in-Some.ensures.front in
     let cut : c.truncate-2.new.self.items ≡ pieces_upto piece.base old.held.items = rw c.in_ok-reserve.ensures.items at c.truncate-2.ensures.items ∙ front in
-    let pushed : c.push.new.self.items ≡ pieces_upto piece.base old.held.items ++ piece ∷ [] = rw (c.unwrap.ensures, cut) at c.push.ensures.items in
+    let pushed : c.push_reserved.new.self.items ≡ pieces_upto piece.base old.held.items ++ piece ∷ [] = rw cut at c.push_reserved.ensures.items in
     record {
       run = rw pushed (IsRun-push old.floor piece.base (pieces_upto piece.base old.held.items) piece (IsRun-pieces_upto old.floor piece.base old.top old.held.items c.self.invariant.run place) c.if-stamp-base.false c.requires.formed.some);
       formed = rw c.clear.ensures (All-nil IsWellFormed);
@@ -75,11 +75,11 @@ pub returns-clause-taken : goal.returns-clause-taken
 returns-clause-taken c =
     let old = c.self.inside in
     let piece = c.args.piece in
-    let new : ChainView = chain_of piece.stamp.inc.0 old.floor piece.stamp.to c.push.new.self.items c.clear.new.self in
-    let place : IsEnd old.floor (stamps_of old.held.items) piece.base = rw c.deref.ensures.value at c.in-Some.ensures.place in
-    let front = rw c.deref.ensures.value at c.in-Some.ensures.front in
+    let new : ChainView = chain_of piece.stamp.inc.0 old.floor piece.stamp.to c.push_reserved.new.self.items c.clear.new.self in
+    let place : IsEnd old.floor (stamps_of old.held.items) piece.base = rw c.as_slice.ensures at c.in-Some.ensures.place in
+    let front = rw c.as_slice.ensures at c.in-Some.ensures.front in
     let cut : c.truncate-2.new.self.items ≡ pieces_upto piece.base old.held.items = rw c.in_ok-reserve.ensures.items at c.truncate-2.ensures.items ∙ front in
-    let pushed : c.push.new.self.items ≡ pieces_upto piece.base old.held.items ++ piece ∷ [] = rw (c.unwrap.ensures, cut) at c.push.ensures.items in
+    let pushed : c.push_reserved.new.self.items ≡ pieces_upto piece.base old.held.items ++ piece ∷ [] = rw cut at c.push_reserved.ensures.items in
     let later : old.inc.0 < piece.stamp.inc.0 = subst (λ (v : ChainView). v.inc < piece.stamp.inc.0) (sym c.self.view_is) c.requires.later in
     let past : piece.base < piece.stamp.to = (let a = c.requires.formed.after_base in let b = c.requires.formed.some in omega arith) in
     subst (λ (v : ChainView). Enters v piece (Held piece.stamp.to) new) c.self.view_is (inr (

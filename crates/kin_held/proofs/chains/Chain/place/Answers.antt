@@ -14,7 +14,7 @@ invariant_of-self-then-stamp-self-2 c =
     let old = c.self.inside in
     let piece = c.args.piece in
     let joins = c.join-self-inside.ensures.joins in
-    let pushed : c.push.new.self.items ≡ old.held.items ++ piece ∷ [] = rw (c.unwrap.ensures, c.in_ok-reserve.ensures.items) at c.push.ensures.items in
+    let pushed : c.push_reserved.new.self.items ≡ old.held.items ++ piece ∷ [] = rw c.in_ok-reserve.ensures.items at c.push_reserved.ensures.items in
     let first : IsRun old.floor (old.held.items ++ piece ∷ []) piece.stamp.to = IsRun-push old.floor old.top old.held.items piece c.self.invariant.run c.if-stamp-self-2.true c.requires.some in
     record {
       run = rw (joins.1, pushed) (IsRun-append old.floor piece.stamp.to c.join-self-inside.result (old.held.items ++ piece ∷ []) joins.0 first joins.2.run);
