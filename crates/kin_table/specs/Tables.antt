@@ -1,5 +1,5 @@
 -- What a table holds: a row of each partition, the incarnation and the agreed position of each node, and the vectors.
-use Rattle.std.specs.Prelude.{ℕ, ◌≡◌, ◌<◌, ◌+◌, ◌-◌, ◌==◌, ◌^◌, ◌&&◌, nat_lt, Bool, false, if◌then◌else◌, List, [], ◌∷◌, ◌++◌, All, Option, Some, None, unwrap_or, length, replicate, slice_index, slice_index_or, slice_set}
+use Rattle.std.specs.Prelude.{ℕ, ◌≡◌, ◌<◌, ◌≤◌, ◌+◌, ◌-◌, ◌==◌, ◌^◌, ◌&&◌, nat_lt, Bool, false, if◌then◌else◌, List, [], ◌∷◌, ◌++◌, All, Option, Some, None, unwrap_or, length, replicate, slice_index, slice_index_or, slice_set}
 use Rattle.kin_ids.specs.declared.ids.Inc.{Inc}
 use Rattle.kin_ids.specs.declared.stamps.End.{End}
 use Rattle.kin_ids.specs.Lines.{first_without}
@@ -20,7 +20,7 @@ pub record TableView : Type 0 where
   pub agreed : List ℕ
   pub vectors : List (List End)
 
--- there is a node and a partition, and each list has one entry of each node
+-- there is a node and a partition, each list has one entry of each node, and epochs have numbers below 2^32
 pub record IsTable (t : TableView) : Type 0 where
   pub nodes : 0 < length t.agreed
   pub few_nodes : length t.agreed < 2 ^ 16
@@ -31,6 +31,7 @@ pub record IsTable (t : TableView) : Type 0 where
   pub row_tops : All (λ (row : RowView). length row.tops ≡ length t.agreed) t.rows
   pub vectors : All (λ (ends : List End). length ends ≡ length t.agreed) t.vectors
   pub some : 0 < length t.vectors
+  pub few_cuts : length t.vectors ≤ 2 ^ 32
 
 -- the row of a partition that didn't report yet
 abbrev pub no_report : ℕ → RowView

@@ -13,6 +13,7 @@ invariant_of-self-2 c =
     let same : length ends ≡ length c.in_ok-cut.cut.ends = ap (λ (cut : Cut). length cut.ends) c.in_ok-copy.ensures in
     let count : length ends ≡ length old.agreed.items = same ∙ rw (← c.self.view_is) at c.in_ok-cut.ensures.count in
     let more = length-append old.vectors (ends ∷ []) in
+    let room = rw (← c.self.view_is) at c.requires.room in
     rw c.in_ok-push.ensures.ok (record {
       nodes = c.self.invariant.nodes;
       few_nodes = c.self.invariant.few_nodes;
@@ -23,6 +24,7 @@ invariant_of-self-2 c =
       row_tops = c.self.invariant.row_tops;
       vectors = All-push (λ (vector : List End). length vector ≡ length old.agreed.items) old.vectors ends c.self.invariant.vectors count;
       some = omega arith;
+      few_cuts = omega arith;
     })
 
 pub returns-clause-table : goal.returns-clause-table
