@@ -1,0 +1,7 @@
+use Rattle.std.proofs.Common.{◌≡◌, map}
+use Rattle.std.specs.List.{range_with_len}
+use Rattle.kin_graph.specs.State.{empty_part}
+use Rattle.kin_blocks.proofs.snaps.Snap.empty.Given as goal
+
+abbrev pub invariant-loop-p : goal.invariant-loop-p
+invariant-loop-p l = l.stores.items ≡ map (λ p. empty_part p l.parts) (range_with_len 0 l.p)

@@ -1,0 +1,120 @@
+//! A snapshot of two partitions: read, shared, and moved between threads.
+
+ghost use Rattle.std.specs.Prelude.{◌≡◌, ◌<◌, All, IfOk};
+ghost use Rattle.kin_ids.specs.Operations.{op_part};
+
+use crate::Snap;
+use kin_graph::{Half, PartGraph, Steps, View};
+use kin_ids::{
+    Epoch, Inc, IngestId, Numbered, Op, Ops, PartId, Piece, Place, Stamp, Tag, User, part_of_tag,
+};
+use std::alloc::Global;
+use std::marker::Brand;
+use std::process::Abort;
+use std::sync::ledger::{Blank, Ledger};
+use std::test::Fail;
+use std::thread;
+
+const FOLLOWER: User = User(1);
+
+const FOLLOWED: User = User(2);
+
+// The store of one of two partitions with these operations of record 1 of node 0, in epoch 1.
+fn store_of(alloc: Global, part: PartId, ops: Vec<Numbered>) -> Result<PartGraph, Fail>
+    requires part { part.0 < 2 }
+    requires home { All (λ x. op_part 2 x.op ≡ part.0) ops.items }
+    ensures part { IfOk result (λ store. store.part ≡ part.0) }
+    ensures parts { IfOk result (λ store. store.parts ≡ 2) }
+{
+    let mut store = PartGraph::new(alloc, part, 2)?;
+    let stamp = Stamp {
+        ingest: IngestId(0),
+        inc: Inc(0),
+        from: 0,
+        to: 1,
+    };
+    let piece = Piece {
+        stamp,
+        base: 0,
+        part,
+        ops: Ops::of(ops),
+    };
+    store.apply(Epoch(1), &piece)?;
+    Ok(store)
+}
+
+fn at_first(op: Op) -> Numbered
+    ensures { result.op ≡ op }
+{
+    Numbered { number: 1, op }
+}
+
+// User 1, of partition 1, follows user 2 and uses a tag, both of partition 0.
+fn small_snap<R: Abort + AllocGlobal>(rt: &R, tag: Tag) -> Result<Snap, Fail> {
+    let alloc = rt.alloc();
+    assert_eq!(rt; part_of_tag(tag, 2).0, 0);
+    let mut snap = Snap::empty(alloc, 2)?;
+    let even = vec![in alloc;
+        at_first(Op::AddIn(FOLLOWED, FOLLOWER)),
+        at_first(Op::TagUse(tag, FOLLOWER)),
+    ]?;
+    snap.put(PartId(0), store_of(alloc, PartId(0), even)?);
+    let odd = vec![in alloc;
+        at_first(Op::AddOut(FOLLOWER, FOLLOWED)),
+        at_first(Op::Use(FOLLOWER, tag)),
+    ]?;
+    snap.put(PartId(1), store_of(alloc, PartId(1), odd)?);
+    Ok(snap)
+}
+
+fn half(other: User) -> Half {
+    Half {
+        other,
+        present: true,
+        added: Place {
+            epoch: Epoch(1),
+            ingest: IngestId(0),
+            number: 1,
+        },
+    }
+}
+
+fn assert_halves<R: Abort, L: Ledger>(rt: &R, snap: &Snap, blank: Blank)
+    requires name { blank.name ≡ L.name }
+    requires parts { (blank.parts ≡ L.parts) × (0 < L.parts) }
+{
+    let mut steps = Steps::<L>::new(blank);
+    assert!(rt; snap.out(FOLLOWER, &mut steps) == [half(FOLLOWED)].as_slice());
+    assert!(rt; snap.inn(FOLLOWED, &mut steps) == [half(FOLLOWER)].as_slice());
+    assert!(rt; snap.inn(FOLLOWER, &mut steps).is_empty());
+}
+
+#[test]
+fn a_follow_and_a_use_on_two_partitions(rt: HostRuntime) -> Result<(), Fail> {
+    let Some(go) = Tag::read(b"go") else {
+        return Ok(());
+    };
+    let snap = small_snap(&rt, go)?.share()?;
+    assert!(rt; snap.users()?.as_slice() == [FOLLOWER, FOLLOWED].as_slice());
+    assert!(rt; snap.tags()?.as_slice() == [go].as_slice());
+    assert_eq!(rt; (snap.tag_users(go), snap.uses(FOLLOWER).len()), (1, 1));
+    assert_halves::<_, Brand>(&rt, &snap, Blank::new(1));
+    Ok(())
+}
+
+#[test]
+fn read_by_two_threads(rt: HostRuntime) -> Result<(), Fail> {
+    let Some(go) = Tag::read(b"go") else {
+        return Ok(());
+    };
+    let snap = small_snap(&rt, go)?;
+    let (follower, followed) = thread::join(
+        &rt,
+        || snap.is_vertex(FOLLOWER),
+        || snap.is_vertex(FOLLOWED),
+    );
+    assert_eq!(rt; (follower, followed), (true, true));
+    let (moved, _) = thread::join(&rt, move || snap.is_vertex(User(3)), || ());
+    assert!(rt; !moved);
+    Ok(())
+}
