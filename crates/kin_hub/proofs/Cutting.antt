@@ -48,7 +48,7 @@ module _ (parts : ℕ) (feeds : List (List Record)) (lines : ℕ → List Stamp)
       let low = s.floors 0 i some i_lt in
       upto_past (agreed_of old.table i) from (stamps_of ch.held) ahead ∙ (ap (past from) (s.chains 0 i some i_lt).whole ∙ past_past ch.floor from (lines i) (omega arith))
 
-  list-is : (i : ℕ) → i < length feeds → list_at (since_cut old) i ≡ past (vectors Last i) (lines i)
+  pub list-is : (i : ℕ) → i < length feeds → list_at (since_cut old) i ≡ past (vectors Last i) (lines i)
   list-is i i_lt =
       let at : ℕ → List Stamp = λ j. stamps_between (chain_of old 0 j) (last_of old.table j).to (agreed_of old.table j) in
       let nodes = s.nodes_are in

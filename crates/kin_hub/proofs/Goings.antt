@@ -1,11 +1,15 @@
 -- What stands after each call of a hub.
-use Rattle.std.proofs.Common.{◌≡◌, ℕ, ◌<◌, ◌≤◌, ◌+◌, Option, List, [], Result, Ok, Err, sym, subst, arith, length, replicate}
+use Rattle.std.proofs.Common.{◌≡◌, ℕ, ◌<◌, ◌≤◌, ◌+◌, Option, List, [], ◌∷◌, Result, Ok, Err, refl, sym, subst, arith, length, replicate}
 use Rattle.std.proofs.lemmas.List.{length-replicate, length-map}
 use Rattle.std.specs.Result.{IfOk, OnOk, OnErr}
 use Rattle.kin_ids.specs.declared.ops.Record.{Record}
 use Rattle.kin_ids.specs.declared.ops.Piece.{Piece}
 use Rattle.kin_ids.specs.declared.faults.Memory.{Memory}
-use Rattle.kin_ids.specs.Lines.{stamps_of, past}
+use Rattle.std.specs.List.{All}
+use Rattle.std.proofs.lemmas.List.Elements.{All-nil, All-cons}
+use Rattle.kin_ids.specs.Lines.{stamps_of, past, IsLine}
+use Rattle.kin_ids.proofs.Lines.{past-line}
+use Rattle.kin_table.specs.Lists.{list_at}
 use Rattle.kin_held.specs.Chains.{ChainView, chain_at}
 use Rattle.kin_held.specs.declared.answers.Taken.{Taken}
 use Rattle.kin_ids.specs.declared.stamps.End.{End}
@@ -14,13 +18,14 @@ use Rattle.kin_table.specs.declared.answers.IncarnationsSpent.{IncarnationsSpent
 use Rattle.kin_table.specs.declared.answers.CutRefused.{CutRefused}
 use Rattle.kin_table.specs.declared.cuts.Cut.{Cut}
 use Rattle.kin_table.specs.Cuts.{IsNextCut}
-use Rattle.kin_table.specs.Tables.{agreed_of, reach_of}
+use Rattle.kin_table.specs.Tables.{agreed_of, reach_of, cuts_of}
+use Rattle.kin_blocks.specs.Versions.{VersionsView, IsVersions, first_versions}
 use Rattle.kin_hub.specs.Cores.{CoreView, IsCore, CoreTakes, chain_of, least_reach, past_in, ready_run, ready, stamps_between, since_cut, with_cut, with_report, with_raise, with_seal}
 use Rattle.kin_hub.specs.Fronts.{IsLongestFront}
 use Rattle.kin_hub.specs.Hubs.{HubView, nodes_in, parts_in, agreed_in, last_in, cuts_in}
-use Rattle.kin_hub.specs.Stands.{CoreStands, HubStands, HasStands}
+use Rattle.kin_hub.specs.Stands.{CoreStands, StoresStand, HubStands, HasStands}
 use Rattle.kin_hub.specs.Goes.{Knows, HubPlaces, HubKeeps, HubRaises, HubSeals, HubCuts, AreSince, grown, based}
-use Rattle.kin_hub.specs.Cuts.{next_at, with_next}
+use Rattle.kin_hub.specs.Cuts.{HasRecords, next_at, with_next}
 use Rattle.kin_hub.specs.Opens.{first_core, first_hub, no_lines, first_bases, no_vectors}
 use Rattle.kin_hub.proofs.Begins.{longest-front}
 use Rattle.kin_hub.proofs.Running.{reach-from, rises, at_most}
@@ -28,22 +33,27 @@ use Rattle.kin_hub.proofs.Taking.{take-stands}
 use Rattle.kin_hub.proofs.Reporting.{report-stands}
 use Rattle.kin_hub.proofs.Sealing.{seal-stands}
 use Rattle.kin_hub.proofs.Raising.{raise-stands}
-use Rattle.kin_hub.proofs.Cutting.{last-is, last-low, since-is, cut-stands}
-use Rattle.kin_hub.proofs.Opening.{opens-stands}
+use Rattle.kin_hub.proofs.Cutting.{last-is, last-low, list-is, since-is, cut-stands}
+use Rattle.kin_hub.proofs.Opening.{opens-stands, first-floor}
+use Rattle.kin_hub.proofs.Holding.{node-in}
+use Rattle.kin_hub.proofs.Storing.{stores-go, take-floor, cut-stores, first-stores}
 
 module _ (old : HubView) (x : Piece) (n_lt : x.stamp.ingest.0 < nodes_in old) (q_lt : x.part.0 < parts_in old) (new : CoreView) (core : IsCore new) where
-  places : (t : Taken) → CoreTakes old.core x t new → HubPlaces old x (record { core = new })
+  places : (t : Taken) → CoreTakes old.core x t new → HubPlaces old x (record old { core = new })
   places t takes parts feeds lines bases vectors known s = record {
     core = take-stands parts feeds lines bases vectors old.core s.core x (let nodes = s.core.nodes_are in omega arith) (let count = s.core.parts_are in omega arith) known.fits known.inc known.base t new takes core;
+    stores = stores-go parts feeds vectors old new s.stores (subst (λ (c : CoreView). cuts_in old ≤ cuts_of c.table) (sym takes.2) (omega arith))
+        (λ p i p_lt i_lt. take-floor old.core x t new takes q_lt
+        (node-in parts feeds lines bases vectors old.core s.core x.part.0 x.stamp.ingest.0 (let count = s.core.parts_are in omega arith) (let nodes = s.core.nodes_are in omega arith)) p i);
   }
 
-  pub take-places : (r : Result Taken Memory) → IfOk r (λ t. CoreTakes old.core x t new) → IfOk r (λ _. HubPlaces old x (record { core = new }))
+  pub take-places : (r : Result Taken Memory) → IfOk r (λ t. CoreTakes old.core x t new) → IfOk r (λ _. HubPlaces old x (record old { core = new }))
   take-places (Ok t) takes = places t takes
   take-places (Err e) takes = tt
 
-  pub take-some : (r : Result Taken Memory) → IfOk r (λ t. CoreTakes old.core x t new) → OnErr r (new ≡ old.core) → Knows old x → HasStands old → HasStands (record { core = new })
+  pub take-some : (r : Result Taken Memory) → IfOk r (λ t. CoreTakes old.core x t new) → OnErr r (new ≡ old.core) → Knows old x → HasStands old → HasStands (record old { core = new })
   take-some (Ok t) takes err (parts, feeds, lines, bases, vectors, s, known) has = (parts, feeds, lines, bases, vectors, places t takes parts feeds lines bases vectors known s)
-  take-some (Err e) takes err known has = subst (λ (c : CoreView). HasStands (record { core = c })) (sym err) has
+  take-some (Err e) takes err known has = subst (λ (c : CoreView). HasStands (record old { core = c })) (sym err) has
 
 -- some stands go on
 pub some-keeps : (old new : HubView) → HubKeeps old new → HasStands old → HasStands new
@@ -55,30 +65,33 @@ some-raises old new j raises (parts, feeds, lines, bases, vectors, s) = (parts, 
 pub some-seals : (old new : HubView) (j : ℕ) → HubSeals old j new → HasStands old → HasStands new
 some-seals old new j seals (parts, feeds, lines, bases, vectors, s) = (parts, feeds, lines, based bases j (agreed_in old j), vectors, seals parts feeds lines bases vectors s)
 
-pub report-keeps : (old : HubView) (p : ℕ) (new : CoreView) → p < parts_in old → IsCore new → new ≡ with_report old.core p → HubKeeps old (record { core = new })
+pub report-keeps : (old : HubView) (p : ℕ) (new : CoreView) → p < parts_in old → IsCore new → new ≡ with_report old.core p → HubKeeps old (record old { core = new })
 report-keeps old p new lt core is parts feeds lines bases vectors s = record {
   core = subst (CoreStands parts feeds lines bases vectors) (sym is) (report-stands parts feeds lines bases vectors old.core s.core p (let count = s.core.parts_are in omega arith) (subst IsCore is core));
+  stores = subst (λ (c : CoreView). StoresStand parts feeds vectors (record old { core = c })) (sym is) (stores-go parts feeds vectors old (with_report old.core p) s.stores (omega arith) (λ q i q_lt i_lt. refl));
 }
 
-pub seal-seals : (old : HubView) (j : ℕ) (new : CoreView) → j < nodes_in old → IsCore new → new ≡ with_seal old.core j → HubSeals old j (record { core = new })
+pub seal-seals : (old : HubView) (j : ℕ) (new : CoreView) → j < nodes_in old → IsCore new → new ≡ with_seal old.core j → HubSeals old j (record old { core = new })
 seal-seals old j new lt core is parts feeds lines bases vectors s = record {
   core = subst (CoreStands parts feeds lines (based bases j (agreed_in old j)) vectors) (sym is) (seal-stands parts feeds lines bases vectors old.core s.core j (let nodes = s.core.nodes_are in omega arith) (subst IsCore is core));
+  stores = subst (λ (c : CoreView). StoresStand parts feeds vectors (record old { core = c })) (sym is) (stores-go parts feeds vectors old (with_seal old.core j) s.stores (omega arith) (λ q i q_lt i_lt. refl));
 }
 
 module _ (old : HubView) (j : ℕ) (new : CoreView) (lt : j < nodes_in old) (core : IsCore new) where
-  pub seal-result : (r : Result End IncarnationsSpent) → OnOk r (new ≡ with_seal old.core j) → OnOk r (HubSeals old j (record { core = new }))
+  pub seal-result : (r : Result End IncarnationsSpent) → OnOk r (new ≡ with_seal old.core j) → OnOk r (HubSeals old j (record old { core = new }))
   seal-result (Ok end) is = seal-seals old j new lt core is
   seal-result (Err e) is = tt
 
-  pub seal-some : (r : Result End IncarnationsSpent) → OnErr r (new ≡ old.core) → OnOk r (new ≡ with_seal old.core j) → HasStands old → HasStands (record { core = new })
-  seal-some (Ok end) same is has = some-seals old (record { core = new }) j (seal-seals old j new lt core is) has
-  seal-some (Err e) same is has = subst (λ (c : CoreView). HasStands (record { core = c })) (sym same) has
+  pub seal-some : (r : Result End IncarnationsSpent) → OnErr r (new ≡ old.core) → OnOk r (new ≡ with_seal old.core j) → HasStands old → HasStands (record old { core = new })
+  seal-some (Ok end) same is has = some-seals old (record old { core = new }) j (seal-seals old j new lt core is) has
+  seal-some (Err e) same is has = subst (λ (c : CoreView). HasStands (record old { core = c })) (sym same) has
 
-pub raise-raises : (old : HubView) (j : ℕ) (new : CoreView) → j < nodes_in old → IsCore new → new ≡ with_raise old.core j → HubRaises old j (record { core = new })
+pub raise-raises : (old : HubView) (j : ℕ) (new : CoreView) → j < nodes_in old → IsCore new → new ≡ with_raise old.core j → HubRaises old j (record old { core = new })
 raise-raises old j new lt core is parts feeds lines bases vectors s = record {
   core = subst (CoreStands parts feeds (grown lines j (ready_run old.core j)) bases vectors) (sym is)
       (raise-stands parts feeds lines bases vectors old.core s.core j (let nodes = s.core.nodes_are in omega arith)
       (let some = s.core.core.table.parts in let rows = s.core.core.parts in let count = s.core.parts_are in omega arith) (subst IsCore is core));
+  stores = subst (λ (c : CoreView). StoresStand parts feeds vectors (record old { core = c })) (sym is) (stores-go parts feeds vectors old (with_raise old.core j) s.stores (omega arith) (λ q i q_lt i_lt. refl));
 }
 
 -- what a raise asks of the table holds of a hub that stands for something
@@ -101,14 +114,23 @@ raisable h i lt (parts, feeds, lines, bases, vectors, s) =
     }
 
 -- before anything came
-pub opens-some : (nodes parts : ℕ) → IsCore (first_core nodes parts) → HasStands (first_hub nodes parts)
-opens-some nodes parts core =
-    let feeds : List (List Record) = replicate nodes [] in
-    (parts, feeds, no_lines, first_bases, no_vectors, record { core = opens-stands nodes parts feeds (length-replicate nodes []) core })
+pub opens-all : (nodes parts : ℕ) → IsCore (first_core nodes parts) → IsVersions (first_versions parts) → (feeds : List (List Record)) → length feeds ≡ nodes → HubStands parts feeds no_lines first_bases no_vectors (first_hub nodes parts)
+opens-all nodes parts core versions feeds count = record {
+  core = opens-stands nodes parts feeds count core;
+  stores = first-stores nodes parts feeds versions (λ p i lt. first-floor nodes parts feeds count p i lt);
+}
 
-pub opens : (nodes parts : ℕ) (c : CoreView) → IsCore c → c ≡ first_core nodes parts → (feeds : List (List Record)) → length feeds ≡ nodes → HubStands parts feeds no_lines first_bases no_vectors (record { core = c })
-opens nodes parts c core is feeds count =
-    record { core = subst (CoreStands parts feeds no_lines first_bases no_vectors) (sym is) (opens-stands nodes parts feeds count (subst IsCore is core)) }
+pub opens-some : (nodes parts : ℕ) → IsCore (first_core nodes parts) → IsVersions (first_versions parts) → HasStands (first_hub nodes parts)
+opens-some nodes parts core versions =
+    let feeds : List (List Record) = replicate nodes [] in
+    (parts, feeds, no_lines, first_bases, no_vectors, opens-all nodes parts core versions feeds (length-replicate nodes []))
+
+pub opens : (nodes parts : ℕ) (c : CoreView) (v : VersionsView) → IsCore c → c ≡ first_core nodes parts → IsVersions v → v ≡ first_versions parts → (feeds : List (List Record)) → length feeds ≡ nodes →
+    HubStands parts feeds no_lines first_bases no_vectors (record { core = c; versions = v })
+opens nodes parts c v core core_is versions versions_is feeds count =
+    subst (λ (c : CoreView). HubStands parts feeds no_lines first_bases no_vectors (record { core = c; versions = v })) (sym core_is)
+    (subst (λ (v : VersionsView). HubStands parts feeds no_lines first_bases no_vectors (record { core = first_core nodes parts; versions = v })) (sym versions_is)
+    (opens-all nodes parts (subst IsCore core_is core) (subst IsVersions versions_is versions) feeds count))
 
 -- the run that a raise passes is the longest that it may
 pub ready-longest : (h : HubView) (i : ℕ) → HasStands h → IsLongestFront (least_reach h.core i) (past_in h.core.helds (agreed_in h i) i) (ready_run h.core i)
@@ -143,19 +165,37 @@ last-within h (parts, feeds, lines, bases, vectors, s) i lt =
     let count = s.core.parts_are in
     last-low parts feeds lines bases vectors h.core s.core (omega arith) i (omega arith)
 
+-- what is agreed past the last vector has records
+sized-line : (at : ℕ) (ss : List Stamp) → IsLine at ss → All HasRecords ss
+sized-line at [] line = All-nil HasRecords
+sized-line at (s ∷ ss) line = let from = line.0 in let some = line.1 in All-cons HasRecords s ss (omega arith) (sized-line s.to ss line.2)
+
+pub last-sized : (h : HubView) → HasStands h → (i : ℕ) → i < nodes_in h → All HasRecords (list_at (since_cut h.core) i)
+last-sized h (parts, feeds, lines, bases, vectors, s) i lt =
+    let nodes = s.core.nodes_are in
+    let some = s.core.core.table.parts in
+    let rows = s.core.core.parts in
+    let count = s.core.parts_are in
+    let one = s.core.core.table.some in
+    let last = cuts_in h in
+    subst (All HasRecords) (sym (list-is parts feeds lines bases vectors h.core s.core (omega arith) i (omega arith)))
+    (sized-line (vectors last i) (past (vectors last i) (lines i)) (past-line 0 (vectors last i) (lines i) (s.core.each_line i (omega arith)).run (s.core.ends last i (omega arith) (omega arith)).place))
+
 module _ (old : HubView) (n : Option ℕ) (new : CoreView) (core : IsCore new) where
-  cut-cuts : (cut : Cut) → IsNextCut old.core.table n (since_cut old.core) cut → new ≡ with_cut old.core cut.ends → HubCuts old n (record { core = new })
+  cut-cuts : (cut : Cut) → IsNextCut old.core.table n (since_cut old.core) cut → new ≡ with_cut old.core cut.ends → HubCuts old n (record old { core = new })
   cut-cuts cut next is parts feeds lines bases vectors s = record {
     core = subst (CoreStands parts feeds lines bases (with_next vectors (cuts_in old + 1) (next_at (length feeds) (vectors (cuts_in old)) lines (agreed_in old) n))) (sym is)
         (cut-stands parts feeds lines bases vectors old.core s.core
         (let some = s.core.core.table.parts in let rows = s.core.core.parts in let count = s.core.parts_are in omega arith) n cut next (subst IsCore is core));
+    stores = subst (λ (c : CoreView). StoresStand parts feeds (with_next vectors (cuts_in old + 1) (next_at (length feeds) (vectors (cuts_in old)) lines (agreed_in old) n)) (record old { core = c })) (sym is)
+        (cut-stores parts feeds vectors old (next_at (length feeds) (vectors (cuts_in old)) lines (agreed_in old) n) cut.ends s.stores);
   }
 
-  pub cut-result : (r : Result Cut CutRefused) → IfOk r (IsNextCut old.core.table n (since_cut old.core)) → IfOk r (λ cut. new ≡ with_cut old.core cut.ends) → OnOk r (HubCuts old n (record { core = new }))
+  pub cut-result : (r : Result Cut CutRefused) → IfOk r (IsNextCut old.core.table n (since_cut old.core)) → IfOk r (λ cut. new ≡ with_cut old.core cut.ends) → OnOk r (HubCuts old n (record old { core = new }))
   cut-result (Ok cut) next is = cut-cuts cut next is
   cut-result (Err e) next is = tt
 
-  pub cut-some : (r : Result Cut CutRefused) → IfOk r (IsNextCut old.core.table n (since_cut old.core)) → IfOk r (λ cut. new ≡ with_cut old.core cut.ends) → OnErr r (new ≡ old.core) → HasStands old → HasStands (record { core = new })
+  pub cut-some : (r : Result Cut CutRefused) → IfOk r (IsNextCut old.core.table n (since_cut old.core)) → IfOk r (λ cut. new ≡ with_cut old.core cut.ends) → OnErr r (new ≡ old.core) → HasStands old → HasStands (record old { core = new })
   cut-some (Ok cut) next is same (parts, feeds, lines, bases, vectors, s) =
       (parts, feeds, lines, bases, with_next vectors (cuts_in old + 1) (next_at (length feeds) (vectors (cuts_in old)) lines (agreed_in old) n), cut-cuts cut next is parts feeds lines bases vectors s)
-  cut-some (Err e) next is same has = subst (λ (c : CoreView). HasStands (record { core = c })) (sym same) has
+  cut-some (Err e) next is same has = subst (λ (c : CoreView). HasStands (record old { core = c })) (sym same) has

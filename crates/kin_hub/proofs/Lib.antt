@@ -10,4 +10,12 @@ pub mod Running
 pub mod Raising
 pub mod Cutting
 pub mod Opening
+pub mod Storing
+pub mod Forgetting
+pub mod Applying
+pub mod Committing
+pub mod Fronting
 pub mod Goings
+pub mod Alike
+pub mod Smalls
+pub mod Follows

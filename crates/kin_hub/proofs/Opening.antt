@@ -7,7 +7,7 @@ use Rattle.kin_ids.specs.declared.ids.Inc.{Inc}
 use Rattle.kin_ids.specs.declared.ops.Record.{Record}
 use Rattle.kin_ids.specs.declared.ops.Piece.{Piece}
 use Rattle.kin_ids.specs.Order.{feed_at}
-use Rattle.kin_held.specs.Chains.{no_chain, chain_at}
+use Rattle.kin_held.specs.Chains.{ChainView, no_chain, chain_at}
 use Rattle.kin_table.specs.Vectors.{no_end, end_at, vector_at}
 use Rattle.kin_table.specs.Tables.{RowView, no_report, row_at, first_table, agreed_of, inc_of}
 use Rattle.kin_hub.specs.Cores.{IsCore, chain_of}
@@ -61,6 +61,9 @@ module _ (nodes parts : ℕ) (feeds : List (List Record)) (same_count : length f
 
   chain-is : (p i : ℕ) → p < parts → chain_of (first_core nodes parts) p i ≡ no_chain
   chain-is p i lt = ap (λ cs. chain_at cs i) (get_or-replicate parts p (replicate nodes no_chain) [] lt) ∙ same nodes i no_chain
+
+  pub first-floor : (p i : ℕ) → p < parts → (chain_of (first_core nodes parts) p i).floor ≡ 0
+  first-floor p i lt = ap (λ (c : ChainView). c.floor) (chain-is p i lt)
 
   row-is : (p : ℕ) → p < parts → (row_at (first_table nodes parts).rows p).reported ≡ false
   row-is p lt = ap (λ (r : RowView). r.reported) (get_or-replicate parts p (no_report nodes) (no_report 0) lt)

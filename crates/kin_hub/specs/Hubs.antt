@@ -1,11 +1,17 @@
 -- What contracts see of a hub.
-use Rattle.std.specs.Prelude.{ℕ, Option, length}
+use Rattle.std.specs.Prelude.{ℕ, ◌+◌, List, Option, length}
+use Rattle.kin_ids.specs.declared.stamps.End.{End}
 use Rattle.kin_held.specs.Chains.{ChainView}
+use Rattle.kin_table.specs.Vectors.{vector_at}
 use Rattle.kin_table.specs.Tables.{RowView, row_at, agreed_of, inc_of, missing_of, cuts_of, last_of}
+use Rattle.kin_graph.specs.State.{PartState}
+use Rattle.kin_blocks.specs.Versions.{VersionsView, IsKept, committed_at, snap_at, store_at}
 use Rattle.kin_hub.specs.Cores.{CoreView, chain_of}
 
+-- the partitions' chains and the table, and the partitions' stores by epochs
 pub record HubView : Type 0 where
   pub core : CoreView
+  pub versions : VersionsView
 
 -- how many partitions and nodes it has
 abbrev pub parts_in : HubView → ℕ
@@ -38,3 +44,24 @@ cuts_in h = cuts_of h.core.table
 
 abbrev pub last_in : HubView → ℕ → ℕ
 last_in h i = (last_of h.core.table i).to
+
+-- the last epoch that a partition has committed, and the ends of its next one
+abbrev pub committed_in : HubView → ℕ → ℕ
+committed_in h p = committed_at h.versions p
+
+abbrev pub next_ends : HubView → ℕ → List End
+next_ends h p = vector_at h.core.table.vectors (committed_in h p + 1)
+
+-- the first epoch that wasn't let go, and whether an epoch is kept: every partition has committed it, and it wasn't let go
+abbrev pub first_in : HubView → ℕ
+first_in h = h.versions.first
+
+abbrev pub KeepsEpoch : HubView → ℕ → Type 0
+KeepsEpoch h k = IsKept h.versions k
+
+-- the stores of all partitions at an epoch, and one partition's
+abbrev pub snap_in : HubView → ℕ → List PartState
+snap_in h k = snap_at h.versions k
+
+abbrev pub store_in : HubView → ℕ → ℕ → PartState
+store_in h p k = store_at h.versions p k

@@ -6,3 +6,4 @@ pub mod Stands
 pub mod Opens
 pub mod Cuts
 pub mod Goes
+pub mod Commits

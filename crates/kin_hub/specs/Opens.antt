@@ -3,6 +3,7 @@ use Rattle.std.specs.Prelude.{ℕ, List, [], ◌∷◌, replicate}
 use Rattle.kin_ids.specs.declared.stamps.Stamp.{Stamp}
 use Rattle.kin_held.specs.Chains.{no_chain}
 use Rattle.kin_table.specs.Tables.{first_table}
+use Rattle.kin_blocks.specs.Versions.{first_versions}
 use Rattle.kin_hub.specs.Cores.{CoreView}
 use Rattle.kin_hub.specs.Hubs.{HubView}
 
@@ -10,7 +11,7 @@ abbrev pub first_core : ℕ → ℕ → CoreView
 first_core nodes parts = record { helds = replicate parts (replicate nodes no_chain); table = first_table nodes parts }
 
 abbrev pub first_hub : ℕ → ℕ → HubView
-first_hub nodes parts = record { core = first_core nodes parts }
+first_hub nodes parts = record { core = first_core nodes parts; versions = first_versions parts }
 
 -- it stands for no lines, one incarnation of each node, and vector 0
 abbrev pub no_lines : ℕ → List Stamp

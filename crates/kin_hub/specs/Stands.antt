@@ -2,11 +2,14 @@
 use Rattle.std.specs.Prelude.{ℕ, ◌≡◌, ◌<◌, ◌≤◌, ◌+◌, true, List, length}
 use Rattle.kin_ids.specs.declared.stamps.Stamp.{Stamp}
 use Rattle.kin_ids.specs.declared.ops.Record.{Record}
-use Rattle.kin_ids.specs.Order.{feed_at}
+use Rattle.kin_ids.specs.Order.{feed_at, snapshot}
+use Rattle.kin_ids.specs.Parts.{IsPart}
+use Rattle.kin_graph.specs.State.{view_of}
+use Rattle.kin_blocks.specs.Versions.{IsVersions}
 use Rattle.kin_table.specs.Vectors.{end_at, vector_at}
 use Rattle.kin_table.specs.Tables.{row_at, agreed_of, inc_of, cuts_of}
 use Rattle.kin_hub.specs.Cores.{CoreView, IsCore, chain_of}
-use Rattle.kin_hub.specs.Hubs.{HubView}
+use Rattle.kin_hub.specs.Hubs.{HubView, chain_in, cuts_in, committed_in, first_in, store_in}
 use Rattle.kin_hub.specs.Lines.{IsHubLine, IsHubChain, IsHubRow, IsHubEnd}
 
 -- The core stands for these. `lines i` is the agreed line of node i, `bases i` has where each of its incarnations began, and
@@ -24,9 +27,20 @@ pub record CoreStands (parts : ℕ) (feeds : List (List Record)) (lines : ℕ �
   pub grow : (k i : ℕ) → k + 1 < length c.table.vectors → i < length feeds → vectors k i ≤ vectors (k + 1) i
   pub ends : (k i : ℕ) → k < length c.table.vectors → i < length feeds → IsHubEnd (lines i) (agreed_of c.table i) (vectors k i) (end_at (vector_at c.table.vectors k) i)
 
+-- The stores stand for these: no partition has committed more than is cut; its floors are where the last vector that it has committed
+-- is; and its store at each epoch that it has committed, from the first kept one on, is its part of the graph of all records within that
+-- vector.
+pub record StoresStand (parts : ℕ) (feeds : List (List Record)) (vectors : ℕ → ℕ → ℕ) (h : HubView) : Type 0 where
+  pub versions : IsVersions h.versions
+  pub parts_are : length h.versions.committed ≡ parts
+  pub within : (p : ℕ) → p < parts → committed_in h p ≤ cuts_in h
+  pub floors : (p i : ℕ) → p < parts → i < length feeds → (chain_in h p i).floor ≡ vectors (committed_in h p) i
+  pub stores : (p k : ℕ) → p < parts → first_in h ≤ k → k ≤ committed_in h p → IsPart parts p (snapshot feeds vectors k) (view_of (store_in h p k))
+
 -- the hub stands for these
 pub record HubStands (parts : ℕ) (feeds : List (List Record)) (lines : ℕ → List Stamp) (bases : ℕ → List ℕ) (vectors : ℕ → ℕ → ℕ) (h : HubView) : Type 0 where
   pub core : CoreStands parts feeds lines bases vectors h.core
+  pub stores : StoresStand parts feeds vectors h
 
 -- it stands for some
 abbrev pub HasStands : HubView → Type 0

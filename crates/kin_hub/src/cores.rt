@@ -1,12 +1,15 @@
 //! The core of a hub: the partitions' chains, and the table.
 
-ghost use Rattle.std.specs.Prelude.{◌≡◌, ◌≤◌, ◌<◌, ◌⊎◌, ◌↔◌, ℕ, IfOk, IfSome, OnErr, OnOk, IsErr, IsErrOf, IsNone, Some, length, map};
+ghost use Rattle.std.specs.Prelude.{◌≡◌, ◌≤◌, ◌<◌, ◌⊎◌, ◌↔◌, ℕ, All, IfOk, IfSome, OnErr, OnOk, IsErr, IsErrOf, IsNone, Some, length, map};
 ghost use Rattle.kin_ids.specs.declared.ops.Piece.{Piece};
 ghost use Rattle.kin_ids.specs.Operations.{IsWellFormed};
 ghost use Rattle.kin_held.specs.Chains.{ChainView};
 ghost use Rattle.kin_hub.specs.Cores.{kept_inc};
+ghost use Rattle.kin_hub.specs.Cuts.{front_for};
 
+use crate::commits::{apply_epoch, forget_epoch};
 use crate::runs::{between, shared_end};
+use kin_graph::PartGraph;
 use kin_held::{Held, Taken};
 use kin_ids::{Epoch, Inc, IngestId, Memory, PartId, Piece, Stamp, StampList};
 use kin_table::{Cut, CutRefused, End, IncarnationsSpent, Raised, Table};
@@ -36,11 +39,15 @@ impl Model for Core {
 }
 
 impl Core {
-    ghost use Rattle.kin_held.specs.Takes.{taken_of};
+    ghost use Rattle.kin_held.specs.Takes.{taken_of, IsPlace};
+    ghost use Rattle.kin_graph.specs.State.{view_of};
     ghost use Rattle.kin_table.specs.Tables.{agreed_of, inc_of, base_of, reach_of, raised_of, missing_of, cuts_of, last_of};
-    ghost use Rattle.kin_table.specs.Vectors.{vector_at};
+    ghost use Rattle.kin_table.specs.Vectors.{vector_at, end_at};
+    ghost use Rattle.kin_table.specs.Lists.{list_at};
     ghost use Rattle.kin_table.specs.Cuts.{IsNextCut};
-    ghost use Rattle.kin_hub.specs.Cores.{CoreTakes, IsCore, chain_of, least_reach, ready, stamps_between, since_cut, with_report, with_raise, with_seal, with_cut};
+    ghost use Rattle.kin_hub.specs.Cuts.{HasRecords};
+    ghost use Rattle.kin_hub.specs.Cores.{CoreTakes, IsCore, held_at, chain_of, least_reach, ready, stamps_between, since_cut, with_report, with_raise, with_seal, with_cut};
+    ghost use Rattle.kin_hub.specs.Commits.{MayTake, CoreForgets, nodes_applied};
     ghost use Rattle.kin_hub.specs.Opens.{first_core};
 
     /// Nothing came yet.
@@ -147,6 +154,7 @@ impl Core {
         requires room { cuts_of self.old.table < u32.MAX }
         requires ahead { (i : ℕ) → i < length self.old.table.agreed
             → (last_of self.old.table i).to ≤ agreed_of self.old.table i }
+        requires sized { (i : ℕ) → i < length self.old.table.agreed → All HasRecords (list_at (since_cut self.old) i) }
         ensures not_reported { (p : PartId)
             → IsErrOf result (CutRefused.NotReported p) ↔ (missing_of self.old.table ≡ Some p.0) }
         ensures err { OnErr result (self.new ≡ self.old) }
@@ -157,22 +165,64 @@ impl Core {
         if let Some(part) = self.table.missing() {
             return Err(CutRefused::NotReported(part));
         }
-        let lists = self.since_cut()?;
+        let lists = self.since_cut(n)?;
         self.table.cut(n, &lists)
     }
 
-    // Each node's agreed stamps past the last vector.
-    fn since_cut(&self) -> Result<Vec<StampList>, Memory>
+    // Each node's agreed stamps past the last vector, where there is a number only so many of each.
+    fn since_cut(&self, n: Option<u64>) -> Result<Vec<StampList>, Memory>
         requires { (i : ℕ) → i < length self.now.table.agreed
             → (last_of self.now.table i).to ≤ agreed_of self.now.table i }
-        ensures { IfOk result (λ lists. lists.items ≡ since_cut self.now) }
+        ensures { IfOk result (λ lists. lists.items ≡ map (front_for n) (since_cut self.now)) }
     {
         let mut lists = Vec::with_capacity(self.alloc, self.tops.len())?;
         for i in 0..self.tops.len() {
-            let node = IngestId(i as u16);
-            lists.push(self.agreed_since(node, self.table.last(node))?)?;
+            lists.push(self.pending(IngestId(i as u16), n)?)?;
         }
         Ok(lists)
+    }
+
+    // The agreed stamps of node `i` past the last vector, where there is a number only so many.
+    fn pending(&self, i: IngestId, n: Option<u64>) -> Result<StampList, Memory>
+        requires node { i.0 < length self.now.table.agreed }
+        requires ahead { (last_of self.now.table i.0).to ≤ agreed_of self.now.table i.0 }
+        ensures { IfOk result (λ stamps. stamps ≡ front_for n (stamps_between (chain_of self.now 0 i.0)
+            (last_of self.now.table i.0).to (agreed_of self.now.table i.0))) }
+    {
+        let last = self.table.last(i);
+        let run = between(&self.helds[0], i, last, self.table.agreed(i));
+        Ok(StampList::of(stamps(self.alloc, front(run, n))?))
+    }
+
+    /// Applies the pieces of a cut epoch to a store of partition `p`. After `Memory` some of them are applied.
+    pub fn apply(&self, p: PartId, k: Epoch, store: &mut PartGraph) -> Result<(), Memory>
+        requires part { p.0 < length self.now.helds }
+        requires some { 0 < k.0 }
+        requires cut { k.0 ≤ cuts_of self.now.table }
+        requires may { MayTake k.0 (held_at self.now.helds p.0) (vector_at self.now.table.vectors k.0)
+            (length self.now.table.agreed) store.old }
+        ensures ok { OnOk result (view_of store.new ≡ nodes_applied k.0 (held_at self.now.helds p.0)
+            (vector_at self.now.table.vectors k.0) (view_of store.old) (length self.now.table.agreed)) }
+        ensures same { (store.new.part ≡ store.old.part) × (store.new.parts ≡ store.old.parts) }
+    {
+        let cut = self.table.cut_of(k).unwrap();
+        let held = &self.helds[usize::from(p.0)];
+        apply_epoch(store, k, held, cut.ends.as_slice())
+    }
+
+    /// Lets go of the pieces of partition `p` up to the ends of a cut.
+    pub fn forget(&mut self, p: PartId, k: Epoch)
+        requires part { p.0 < length self.old.helds }
+        requires some { 0 < k.0 }
+        requires cut { k.0 ≤ cuts_of self.old.table }
+        requires places { (i : ℕ) → i < length self.old.table.agreed
+            → IsPlace (chain_of self.old p.0 i) (end_at (vector_at self.old.table.vectors k.0) i).to }
+        ensures forgets { CoreForgets self.old p.0 (vector_at self.old.table.vectors k.0) self.new }
+        ensures core { IsCore self.new }
+    {
+        let cut = self.table.cut_of(k).unwrap();
+        let held = &mut self.helds[usize::from(p.0)];
+        forget_epoch(held, cut.ends.as_slice());
     }
 
     pub fn cuts(&self) -> u64
@@ -235,4 +285,14 @@ fn stamps(alloc: Global, run: &[Piece]) -> Result<Vec<Stamp>, Memory>
     ensures { IfOk result (λ v. v.items ≡ map (λ (x : Piece). x.stamp) run.now) }
 {
     Ok(run.iter().map(|piece| piece.stamp).collect(alloc)?)
+}
+
+// The first of these, at most so many where there is a number.
+fn front(run: &[Piece], n: Option<u64>) -> &[Piece]
+    ensures { result.now ≡ front_for n run.now }
+{
+    match n {
+        None => run,
+        Some(n) => &run[..run.len().min(n as usize)],
+    }
 }

@@ -1,9 +1,11 @@
 //! The hub.
 
-ghost use Rattle.std.specs.Prelude.{◌≡◌, ◌<◌, ◌≤◌, ◌⊎◌, ◌↔◌, List, IfOk, IfSome, OnErr, OnOk, IsErr, IsErrOf, IsNone, Some, length};
+ghost use Rattle.std.specs.Prelude.{◌≡◌, ◌<◌, ◌≤◌, ◌+◌, ◌⊎◌, ◌↔◌, ℕ, List, IfOk, IfSome, OnErr, OnOk, IsErr, IsErrOf, IsNone, IsSome, Some, length};
 ghost use Rattle.kin_ids.specs.declared.ops.Record.{Record};
 
+use crate::answers::CommitRefused;
 use crate::cores::Core;
+use kin_blocks::{Snap, Versions};
 use kin_held::Taken;
 use kin_ids::{Epoch, Inc, IngestId, Memory, PartId, Piece, StampList};
 use kin_table::{Cut, CutRefused, End, IncarnationsSpent, Raised};
@@ -14,6 +16,7 @@ use std::marker::Model;
 #[derive(Drop)]
 pub struct Hub {
     core: Core,
+    versions: Versions,
 }
 
 impl Model for Hub {
@@ -22,9 +25,9 @@ impl Model for Hub {
 
     ghost Value = { HubView };
 
-    ghost view = { λ h. record { core = h.core } };
+    ghost view = { λ h. record { core = h.core; versions = h.versions } };
 
-    ghost invariant = { λ h. HasStands (record { core = h.core }) };
+    ghost invariant = { λ h. HasStands (record { core = h.core; versions = h.versions }) };
 }
 
 impl Hub {
@@ -35,7 +38,9 @@ impl Hub {
     ghost use Rattle.kin_table.specs.Vectors.{vector_at};
     ghost use Rattle.kin_table.specs.Cuts.{IsNextCut};
     ghost use Rattle.kin_hub.specs.Cores.{CoreTakes, least_reach, past_in, ready_run, ready, since_cut, with_report, with_raise, with_seal, with_cut};
-    ghost use Rattle.kin_hub.specs.Hubs.{parts_in, nodes_in, chain_in, agreed_in, inc_in, missing_in, cuts_in, last_in};
+    ghost use Rattle.kin_hub.specs.Hubs.{KeepsEpoch, parts_in, nodes_in, chain_in, agreed_in, inc_in, missing_in, cuts_in, last_in, committed_in, snap_in};
+    ghost use Rattle.kin_blocks.specs.Versions.{released};
+    ghost use Rattle.kin_hub.specs.Commits.{HasSmallFeeds, AreSnapshot, Commits, KeepsSnaps, KeepsSnapsFrom};
     ghost use Rattle.kin_hub.specs.Opens.{first_hub, no_lines, first_bases, no_vectors};
     ghost use Rattle.kin_hub.specs.Stands.{HubStands};
     ghost use Rattle.kin_hub.specs.Goes.{Knows, HubPlaces, HubKeeps, HubRaises, HubSeals, HubCuts, AreSince};
@@ -50,6 +55,7 @@ impl Hub {
     {
         Ok(Hub {
             core: Core::new(alloc, nodes, parts)?,
+            versions: Versions::new(alloc, parts)?,
         })
     }
 
@@ -63,6 +69,7 @@ impl Hub {
             taken ≡ taken_of (chain_in self.old piece.part.0 piece.stamp.ingest.0) piece
             (chain_in self.new piece.part.0 piece.stamp.ingest.0).top) }
         ensures taken { IfOk result (λ taken. CoreTakes self.old.core piece taken self.new.core) }
+        ensures versions { self.new.versions ≡ self.old.versions }
         ensures stands { IfOk result (λ _. HubPlaces self.old piece self.new) }
         ensures err { OnErr result (self.new ≡ self.old) }
     {
@@ -73,7 +80,7 @@ impl Hub {
     /// and takes no memory.
     pub fn report(&mut self, p: PartId)
         requires { p.0 < parts_in self.old }
-        ensures row { self.new ≡ record { core = with_report self.old.core p.0 } }
+        ensures row { self.new ≡ record self.old { core = with_report self.old.core p.0 } }
         ensures stands { HubKeeps self.old self.new }
     {
         self.core.report(p);
@@ -95,7 +102,7 @@ impl Hub {
     pub fn raise(&mut self, i: IngestId) -> Raised
         requires { i.0 < nodes_in self.old }
         ensures answer { result ≡ raised_of (agreed_in self.old i.0) (ready self.old.core i.0) }
-        ensures raised { self.new ≡ record { core = with_raise self.old.core i.0 } }
+        ensures raised { self.new ≡ record self.old { core = with_raise self.old.core i.0 } }
         ensures stands { HubRaises self.old i.0 self.new }
     {
         self.core.raise(i)
@@ -107,7 +114,7 @@ impl Hub {
         ensures spent { IsErr result ↔ (inc_in self.old i.0 ≡ u16.MAX) }
         ensures err { OnErr result (self.new ≡ self.old) }
         ensures base { IfOk result (λ end. end ≡ base_of self.old.core.table i.0) }
-        ensures sealed { OnOk result (self.new ≡ record { core = with_seal self.old.core i.0 }) }
+        ensures sealed { OnOk result (self.new ≡ record self.old { core = with_seal self.old.core i.0 }) }
         ensures stands { OnOk result (HubSeals self.old i.0 self.new) }
     {
         self.core.seal(i)
@@ -125,14 +132,15 @@ impl Hub {
     }
 
     /// Cuts the next epoch: at the agreed positions, or with a number by the fair cut from the last vector on. It costs O(n) in
-    /// the partitions, the nodes and the agreed stamps past the last vector.
+    /// the partitions and the nodes, and besides in the agreed stamps past the last vector, of each node at most so many as the
+    /// number says.
     pub fn cut(&mut self, n: Option<u64>) -> Result<Cut, CutRefused>
         requires { cuts_in self.old < u32.MAX }
         ensures not_reported { (p : PartId)
             → IsErrOf result (CutRefused.NotReported p) ↔ (missing_in self.old ≡ Some p.0) }
         ensures err { OnErr result (self.new ≡ self.old) }
         ensures cut { IfOk result (IsNextCut self.old.core.table n (since_cut self.old.core)) }
-        ensures appended { IfOk result (λ cut. self.new ≡ record { core = with_cut self.old.core cut.ends }) }
+        ensures appended { IfOk result (λ cut. self.new ≡ record self.old { core = with_cut self.old.core cut.ends }) }
         ensures stands { OnOk result (HubCuts self.old n self.new) }
     {
         self.core.cut(n)
@@ -152,6 +160,59 @@ impl Hub {
             cut.now ≡ record { epoch = k; ends = vector_at self.now.core.table.vectors k.0 }) }
     {
         self.core.cut_of(k)
+    }
+
+    /// Commits partition `p`'s next epoch: its store takes the epoch's pieces in the agreed order, node by node, and its chains let go
+    /// of them. It costs a copy of the store, and what the pieces cost.
+    pub fn commit(&mut self, p: PartId) -> Result<Epoch, CommitRefused>
+        requires part { p.0 < parts_in self.old }
+        requires small { HasSmallFeeds self.old }
+        ensures nothing_cut { IsErrOf result CommitRefused.NothingCut ↔ (committed_in self.old p.0 ≡ cuts_in self.old) }
+        ensures err { OnErr result (self.new ≡ self.old) }
+        ensures epoch { IfOk result (λ k. k.0 ≡ committed_in self.old p.0 + 1) }
+        ensures commits { OnOk result (Commits self.old p.0 self.new) }
+        ensures kept { OnOk result (KeepsSnaps self.old self.new) }
+        ensures stands { OnOk result (HubKeeps self.old self.new) }
+    {
+        let last = self.versions.committed(p);
+        if self.core.cuts() <= u64::from(last) {
+            return Err(CommitRefused::NothingCut);
+        }
+        let next = Epoch(last + 1);
+        let mut store = self.versions.store(p).copy()?;
+        self.core.apply(p, next, &mut store)?;
+        self.versions.put(p, store)?;
+        self.core.forget(p, next);
+        Ok(next)
+    }
+
+    /// The last epoch that partition `p` has committed, 0 at first. It costs O(1).
+    pub fn committed(&self, p: PartId) -> u64
+        requires { p.0 < parts_in self.now }
+        ensures { result ≡ committed_in self.now p.0 }
+    {
+        u64::from(self.versions.committed(p))
+    }
+
+    /// The graph at the end of an epoch. None exactly where a partition hasn't committed the epoch, or it was let go. Epoch 0 is
+    /// the empty graph. It costs O(n) in the partitions.
+    pub fn snapshot(&self, k: Epoch) -> Option<&Snap>
+        ensures kept { IsSome result ↔ KeepsEpoch self.now k.0 }
+        ensures snap { IfSome result (λ snap. snap.now ≡ snap_in self.now k.0) }
+        ensures whole { IfSome result (λ snap. AreSnapshot self.now k.0 snap.now) }
+    {
+        self.versions.snapshot(k)
+    }
+
+    /// Lets go of every epoch below one that all partitions have committed. No other call lets go of one. It costs O(n) in what it
+    /// lets go, and takes no memory.
+    pub fn release_below(&mut self, k: Epoch)
+        requires { (p : ℕ) → p < parts_in self.old → k.0 ≤ committed_in self.old p }
+        ensures released { self.new ≡ record self.old { versions = released self.old.versions k.0 } }
+        ensures kept { KeepsSnapsFrom k.0 self.old self.new }
+        ensures stands { HubKeeps self.old self.new }
+    {
+        self.versions.release_below(k);
     }
 
     /// Up to where every partition has node `i`, as last raised. It costs O(1).

@@ -36,6 +36,7 @@ module _ (set : Setting) (w : WorldView) (h : List Event) (s : Stands set w h) (
         world = record { nodes = length-set w.ingests j.0 _ ∙ s.world.nodes; hub_nodes = s.world.hub_nodes; hub_parts = s.world.hub_parts };
         feeds = s.feeds;
         parts = s.parts;
+        limits = s.limits;
         history = (lt, s.history);
         ingests = λ i i_lt. get_or-set w.ingests j.0 i _ _ (rw s.world.nodes in_feeds) ∙ at_node i i_lt (eqb j.0 i) refl;
         stamps = s.stamps;
@@ -44,6 +45,8 @@ module _ (set : Setting) (w : WorldView) (h : List Event) (s : Stands set w h) (
         row_incs = s.row_incs;
         row_tops = s.row_tops;
         vectors = s.vectors;
+        committed_are = s.committed_are;
+        kept = s.kept;
         hub = s.hub;
       }
 

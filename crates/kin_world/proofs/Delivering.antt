@@ -23,6 +23,7 @@ use Rattle.kin_history.specs.Outcomes.{delivery, outcome_of}
 use Rattle.kin_held.specs.Chains.{ChainView, chain_at}
 use Rattle.kin_held.specs.Takes.{Takes}
 use Rattle.kin_held.specs.declared.answers.Taken.{Taken}
+use Rattle.kin_blocks.specs.Versions.{VersionsView}
 use Rattle.kin_hub.specs.Cores.{CoreView, CoreTakes, held_at}
 use Rattle.kin_hub.specs.Hubs.{HubView, chain_in}
 use Rattle.kin_hub.specs.Goes.{IsKnown, Knows, HubPlaces}
@@ -87,7 +88,7 @@ never-adrift w story p i c to y x t new p_lt i_lt e of takes =
 
 module _ (set : Setting) (w : WorldView) (h : List Event) (s : Stands set w h) (x : Piece) (of : IsStampedPiece set h x) (t : Taken) (chain : ChainView) (takes : Takes (chain_in w.hub x.part.0 x.stamp.ingest.0) x t chain) where
   abbrev taken_hub : HubView
-  taken_hub = record { core = record w.hub.core { helds = put w.hub.core.helds x.part.0 (put (held_at w.hub.core.helds x.part.0) x.stamp.ingest.0 chain) } }
+  taken_hub = record w.hub { core = record w.hub.core { helds = put w.hub.core.helds x.part.0 (put (held_at w.hub.core.helds x.part.0) x.stamp.ingest.0 chain) } }
 
   key : Took set w h s x.part.0 x of.part of.node of.made of.based t chain
   key = took set w h s x.part.0 x of.part of.node of.made of.based t chain takes
@@ -129,6 +130,7 @@ module _ (set : Setting) (w : WorldView) (h : List Event) (s : Stands set w h) (
     world = record { nodes = s.world.nodes; hub_nodes = s.world.hub_nodes; hub_parts = length-set w.hub.core.helds x.part.0 _ ∙ s.world.hub_parts };
     feeds = s.feeds;
     parts = s.parts;
+    limits = s.limits;
     history = ((of.part, of.node), s.history);
     ingests = s.ingests;
     stamps = s.stamps;
@@ -140,6 +142,8 @@ module _ (set : Setting) (w : WorldView) (h : List Event) (s : Stands set w h) (
     row_incs = s.row_incs;
     row_tops = s.row_tops;
     vectors = s.vectors;
+    committed_are = s.committed_are;
+    kept = s.kept;
     hub = places _ _ _ _ _ (known-is set w h s x of) s.hub;
   }
 
@@ -150,6 +154,11 @@ own-is p j c to x part node inc end =
     let deliver : ℕ → ℕ → ℕ → ℕ → Event = λ a b k m. event.Deliver (record { 0 = a }) (record { 0 = b }) (record { 0 = k }) m in
     ap (λ (a : ℕ). deliver a x.stamp.ingest.0 x.stamp.inc.0 x.stamp.to) part
     ∙ (ap (λ (b : ℕ). deliver p.0 b x.stamp.inc.0 x.stamp.to) node ∙ (ap (λ (k : ℕ). deliver p.0 j.0 k x.stamp.to) inc ∙ ap (deliver p.0 j.0 c.0) end))
+
+-- a hub by its two parts
+hub-is : (new old : HubView) (core : CoreView) → new.versions ≡ old.versions → new.core ≡ core → new ≡ record old { core = core }
+hub-is new old core versions is =
+    ap (λ (c : CoreView). let hub : HubView = record { core = c; versions = new.versions } in hub) is ∙ ap (λ (v : VersionsView). let hub : HubView = record { core = core; versions = v } in hub) versions
 
 pub deliver-keeps : (old : WorldView) (p : PartId) (j : IngestId) (c : Inc) (to : ℕ) (o : Outcome) (new : WorldView) → p.0 < old.parts → j.0 < length old.feeds →
     Delivers old p.0 (find_sent old.sent j.0 c.0 to) o new → Keeps old (event.Deliver p j c to) o new
@@ -166,7 +175,7 @@ deliver-keeps old p j c to o new p_lt j_lt delivers = go (find_sent old.sent j.0
         let stamp = d.of.stamp in
         let same = own-is p j c to x d.of.part (ap (λ (z : Stamp). z.ingest.0) stamp ∙ made.node) (ap (λ (z : Stamp). z.inc.0) stamp ∙ made.inc_is) (ap (λ (z : Stamp). z.to) stamp ∙ made.ends) in
         let at = d.takes.1 in
-        let hub_is : new.hub ≡ taken_hub set old h s x of d.taken at.0 at.1 = ap (λ (core : CoreView). let hub : HubView = record { core = core } in hub)
+        let hub_is : new.hub ≡ taken_hub set old h s x of d.taken at.0 at.1 = hub-is new.hub old.hub _ d.versions
         (d.takes.2 ∙ ap (λ (held : List ChainView). record old.hub.core { helds = put old.hub.core.helds x.part.0 held }) at.2) in
         let answers = deliver-answers set old h s x of d.taken at.0 at.1 in
         let stands = deliver-stands set old h s x of d.taken at.0 at.1 (subst (HubPlaces old.hub x) hub_is d.places) in (

@@ -13,5 +13,8 @@ pub mod Restarting
 pub mod Taking
 pub mod Delivering
 pub mod Running
+pub mod Cutting
+pub mod Committing
 pub mod Unchanged
 pub mod Opening
+pub mod Moments

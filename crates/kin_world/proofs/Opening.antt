@@ -4,12 +4,13 @@ use Rattle.std.proofs.lemmas.Bool.{false≢true}
 use Rattle.std.proofs.lemmas.List.{get_or-replicate}
 use Rattle.kin_ids.specs.declared.ids.User.{User}
 use Rattle.kin_ids.specs.declared.ops.Record.{Record}
+use Rattle.kin_ids.specs.Sizes.{AreWithinLimits}
 use Rattle.kin_ingest.specs.declared.ingests.Ingest.{Ingest}
 use Rattle.kin_history.specs.Setting.{Setting}
 use Rattle.kin_held.specs.Chains.{ChainView, no_chain, chain_at}
 use Rattle.kin_held.specs.ChainOf.{IsChainOf}
 use Rattle.kin_table.specs.Tables.{RowView, no_report}
-use Rattle.kin_hub.specs.Hubs.{HubView, chain_in, row_in}
+use Rattle.kin_hub.specs.Hubs.{HubView, chain_in, row_in, committed_in, first_in}
 use Rattle.kin_hub.specs.Stands.{HubStands}
 use Rattle.kin_hub.specs.Opens.{first_hub, no_lines, first_bases, no_vectors}
 use Rattle.kin_world.specs.Opens.{AreFirst}
@@ -22,13 +23,14 @@ no_chain-is nodes parts p i p_lt i_lt =
 no_row-is : (nodes parts p : ℕ) → p < parts → row_in (first_hub nodes parts) p ≡ no_report nodes
 no_row-is nodes parts p p_lt = get_or-replicate parts p (no_report nodes) (no_report 0) p_lt
 
-pub first-stands : (feeds : List (List Record)) (parts : ℕ) (landmarks : List User) (ingests : List Ingest) (hub : HubView) → AreFirst feeds ingests → hub ≡ first_hub (length feeds) parts →
+pub first-stands : (feeds : List (List Record)) (parts : ℕ) (landmarks : List User) (ingests : List Ingest) (hub : HubView) → AreWithinLimits feeds → AreFirst feeds ingests → hub ≡ first_hub (length feeds) parts →
     HubStands parts feeds no_lines first_bases no_vectors hub →
     Stands (record { feeds = feeds; parts = parts; landmarks = landmarks }) (record { feeds = feeds; parts = parts; ingests = ingests; sent = []; hub = hub }) []
-first-stands feeds parts landmarks ingests hub first is stands = record {
+first-stands feeds parts landmarks ingests hub limits first is stands = record {
   world = record { nodes = first.count; hub_nodes = stands.core.nodes_are; hub_parts = stands.core.parts_are };
   feeds = refl;
   parts = refl;
+  limits = limits;
   history = tt;
   ingests = first.each;
   stamps = refl;
@@ -39,5 +41,7 @@ first-stands feeds parts landmarks ingests hub first is stands = record {
   row_incs = λ p i p_lt i_lt told. absurd (false≢true told);
   row_tops = λ p i p_lt i_lt told. absurd (false≢true told);
   vectors = ap (λ (v : HubView). length v.core.table.vectors) is;
+  committed_are = λ p p_lt. ap (λ (v : HubView). committed_in v p) is ∙ get_or-replicate parts p 0 0 p_lt;
+  kept = ap (λ (v : HubView). first_in v) is;
   hub = stands;
 }

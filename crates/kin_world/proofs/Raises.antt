@@ -27,7 +27,7 @@ use Rattle.kin_world.proofs.Facts.{node_in, agreed_is}
 use Rattle.kin_world.proofs.Ready.{ready-is, raised-line}
 
 abbrev raised_hub : HubView → ℕ → HubView
-raised_hub hub j = record { core = with_raise hub.core j }
+raised_hub hub j = record hub { core = with_raise hub.core j }
 
 module _ (set : Setting) (w : WorldView) (h : List Event) (s : Stands set w h) (j : IngestId) (lt : j.0 < nodes set) where
   told-is : (was now : ℕ) → told_raise (raised_of was now) ≡ cond (ltb was now) (outcome.Raised now) (outcome.Level was)
@@ -55,6 +55,7 @@ module _ (set : Setting) (w : WorldView) (h : List Event) (s : Stands set w h) (
     world = record { nodes = s.world.nodes; hub_nodes = length-set w.hub.core.table.agreed j.0 _ ∙ s.world.hub_nodes; hub_parts = s.world.hub_parts };
     feeds = s.feeds;
     parts = s.parts;
+    limits = s.limits;
     history = (lt, s.history);
     ingests = s.ingests;
     stamps = s.stamps;
@@ -63,6 +64,8 @@ module _ (set : Setting) (w : WorldView) (h : List Event) (s : Stands set w h) (
     row_incs = s.row_incs;
     row_tops = s.row_tops;
     vectors = s.vectors;
+    committed_are = s.committed_are;
+    kept = s.kept;
     hub = subst (λ (lines : ℕ → List Stamp). HubStands set.parts set.feeds lines (bases set h) (vector set h) (raised_hub w.hub j.0)) (fun_ext lines-are) (raises _ _ _ _ _ s.hub);
   }
 

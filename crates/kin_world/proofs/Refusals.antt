@@ -10,7 +10,7 @@ use Rattle.kin_history.specs.RefusalLaws.{Standing, standing}
 use Rattle.kin_history.proofs.Refused.{refused}
 use Rattle.kin_held.specs.ChainOf.{IsChainOf}
 use Rattle.kin_table.specs.Tables.{inc_in}
-use Rattle.kin_hub.specs.Hubs.{chain_in, row_in}
+use Rattle.kin_hub.specs.Hubs.{chain_in, row_in, committed_in, first_in}
 use Rattle.kin_hub.specs.Stands.{HubStands}
 use Rattle.kin_world.specs.Worlds.{WorldView, node_at, setting_of}
 use Rattle.kin_world.specs.Stands.{Stands, Keeps, with_bases}
@@ -22,6 +22,7 @@ alike set w h g same legal s = record {
   world = s.world;
   feeds = s.feeds;
   parts = s.parts;
+  limits = s.limits;
   history = legal;
   ingests = subst (λ (x : Standing). (i : ℕ) → i < nodes set → node_at w i
       ≡ record { id = record { 0 = i }; len = feed_len set i; inc = record { 0 = x.inc i }; base = get_or (x.bases i) (x.inc i) 0; next = end_of 0 (x.line i); up = x.up i }) same s.ingests;
@@ -35,6 +36,8 @@ alike set w h g same legal s = record {
   row_tops = subst (λ (x : Standing). (p i : ℕ) → p < set.parts → i < nodes set → x.has_reported p ≡ true →
       get_or (row_in w.hub p).tops i 0 ≡ end_of (get_or (x.bases i) (seen_in (x.reported p) i) 0) (front_in (x.reported p) (made_by i (seen_in (x.reported p) i) x.sent))) same s.row_tops;
   vectors = subst (λ (x : Standing). length w.hub.core.table.vectors ≡ x.cuts + 1) same s.vectors;
+  committed_are = subst (λ (x : Standing). (p : ℕ) → p < set.parts → committed_in w.hub p ≡ x.committed p) same s.committed_are;
+  kept = subst (λ (x : Standing). first_in w.hub ≡ x.mined) same s.kept;
   hub = subst (λ (x : Standing). HubStands set.parts set.feeds (λ i. upto (x.agreed i) (x.line i)) x.bases x.vector w.hub) same s.hub;
 }
 

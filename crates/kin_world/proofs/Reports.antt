@@ -22,7 +22,7 @@ use Rattle.kin_world.specs.Stands.{Stands, Keeps}
 use Rattle.kin_world.proofs.Facts.{node_in, part_in}
 
 abbrev reported_hub : HubView → ℕ → HubView
-reported_hub hub p = record { core = with_report hub.core p }
+reported_hub hub p = record hub { core = with_report hub.core p }
 
 module _ (set : Setting) (w : WorldView) (h : List Event) (s : Stands set w h) (p : PartId) (lt : p.0 < set.parts) where
   held : List ChainView
@@ -65,6 +65,7 @@ module _ (set : Setting) (w : WorldView) (h : List Event) (s : Stands set w h) (
     world = record { nodes = s.world.nodes; hub_nodes = s.world.hub_nodes; hub_parts = s.world.hub_parts };
     feeds = s.feeds;
     parts = s.parts;
+    limits = s.limits;
     history = (lt, s.history);
     ingests = s.ingests;
     stamps = s.stamps;
@@ -73,6 +74,8 @@ module _ (set : Setting) (w : WorldView) (h : List Event) (s : Stands set w h) (
     row_incs = λ q i q_lt i_lt told. ap (λ (row : RowView). inc_in row.incs i) (at_row q) ∙ at_incs q i q_lt i_lt (eqb p.0 q) refl told;
     row_tops = λ q i q_lt i_lt told. ap (λ (row : RowView). get_or row.tops i 0) (at_row q) ∙ at_tops q i q_lt i_lt (eqb p.0 q) refl told;
     vectors = s.vectors;
+    committed_are = s.committed_are;
+    kept = s.kept;
     hub = keeps _ _ _ _ _ s.hub;
   }
 

@@ -114,16 +114,17 @@ module _ (set : Setting) (w : WorldView) (h : List Event) (s : Stands set w h) (
             (ap (λ (at : ℕ). bases set h j.0 ++ at ∷ []) (agreed_is set w h s j.0 lt) ∙ sym (cond-true _ _ _ comes))
         go false e = refl
 
-    restart-stands : HubSeals w.hub j.0 (record { core = with_seal w.hub.core j.0 }) → Stands set (after_restart w j.0 c a) (event.Restart j ∷ h)
+    restart-stands : HubSeals w.hub j.0 (record w.hub { core = with_seal w.hub.core j.0 }) → Stands set (after_restart w j.0 c a) (event.Restart j ∷ h)
     restart-stands seals =
         let g = good set w h s in
         let in_feeds : j.0 < length w.feeds = subst (λ feeds. j.0 < length feeds) (sym s.feeds) lt in
-        let sealed : HubView = record { core = with_seal w.hub.core j.0 } in
+        let sealed : HubView = record w.hub { core = with_seal w.hub.core j.0 } in
         let based_hub = subst (λ (bs : ℕ → List ℕ). HubStands set.parts set.feeds (agreed_line set h) bs (vector set h) sealed) (fun_ext bases-are) (seals _ _ _ _ _ s.hub) in
         record {
           world = record { nodes = length-set w.ingests j.0 _ ∙ s.world.nodes; hub_nodes = s.world.hub_nodes; hub_parts = s.world.hub_parts };
           feeds = s.feeds;
           parts = s.parts;
+          limits = s.limits;
           history = (lt, s.history);
           ingests = λ i i_lt. get_or-set w.ingests j.0 i _ _ (rw s.world.nodes in_feeds) ∙ at_node i i_lt (eqb j.0 i) refl;
           stamps = s.stamps ∙ with_bases-alike (bases set h) (bases set (event.Restart j ∷ h)) (sent set h) (λ x k. sym (base-kept set h g j.0 x.ingest.0 x.inc.0 ((g x.ingest.0).later x k refl)));
@@ -147,6 +148,8 @@ module _ (set : Setting) (w : WorldView) (h : List Event) (s : Stands set w h) (
           row_tops = λ p i p_lt i_lt told. s.row_tops p i p_lt i_lt told
               ∙ ap (λ (b : ℕ). end_of b (front_in (reported set h p) (made_by i (seen_in (reported set h p) i) (sent set h)))) (sym (base-kept set h g j.0 i (seen_in (reported set h p) i) (row-within set h i p (g i))));
           vectors = s.vectors;
+          committed_are = s.committed_are;
+          kept = s.kept;
           hub = subst (λ (lines : ℕ → List Stamp). HubStands set.parts set.feeds lines (bases set (event.Restart j ∷ h)) (vector set h) sealed) (fun_ext (λ i. sym (upto-kept set h g j.0 i (agreed set h i) (omega arith)))) based_hub;
         }
 

@@ -90,6 +90,7 @@ module _ (set : Setting) (w : WorldView) (h : List Event) (s : Stands set w h) (
           world = record { nodes = length-set w.ingests j.0 _ ∙ s.world.nodes; hub_nodes = s.world.hub_nodes; hub_parts = s.world.hub_parts };
           feeds = s.feeds;
           parts = s.parts;
+          limits = s.limits;
           history = ((lt, some, few), s.history);
           ingests = λ i i_lt. get_or-set w.ingests j.0 i _ _ (rw s.world.nodes in_feeds) ∙ at_node i i_lt (eqb j.0 i) refl;
           stamps = ap (λ (ys : List Sent). ys ++ record { stamp = stamped w j.0 n; base = (node_at w j.0).base } ∷ []) s.stamps
@@ -116,6 +117,8 @@ module _ (set : Setting) (w : WorldView) (h : List Event) (s : Stands set w h) (
           row_tops = λ p i p_lt i_lt told. s.row_tops p i p_lt i_lt told
               ∙ ap (end_of (base set h i (seen_in (reported set h p) i))) (sym (front-made set h g j.0 n some i (seen_in (reported set h p) i) (reported set h p) (reported-sent set h p)));
           vectors = s.vectors;
+          committed_are = s.committed_are;
+          kept = s.kept;
           hub = subst (λ (lines : ℕ → List Stamp). HubStands set.parts set.feeds lines (bases set h) (vector set h) w.hub) (fun_ext (λ i. sym (kept i))) s.hub;
         }
 

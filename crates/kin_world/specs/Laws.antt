@@ -1,13 +1,19 @@
 -- Laws of worlds that stand for a history.
-use Rattle.std.specs.Prelude.{ℕ, ◌≡◌, ◌<◌, true, List}
+use Rattle.std.specs.Prelude.{ℕ, ◌≡◌, ◌<◌, ◌≤◌, ◌↔◌, true, List}
+use Rattle.kin_ids.specs.declared.ids.User.{User}
 use Rattle.kin_ids.specs.declared.ops.Piece.{Piece}
 use Rattle.kin_ids.specs.Lines.{has}
+use Rattle.kin_ids.specs.Order.{snapshot}
 use Rattle.kin_script.specs.declared.events.Event.{Event}
 use Rattle.kin_history.specs.Setting.{Setting, nodes}
 use Rattle.kin_history.specs.Lines.{inc, sent, base, least_ack, agreed}
+use Rattle.kin_history.specs.Vectors.{vector, committed}
+use Rattle.kin_history.specs.Mining.{mined}
 use Rattle.kin_held.specs.declared.answers.Taken.{Taken}
 use Rattle.kin_hub.specs.Cores.{CoreView, CoreTakes, ready}
-use Rattle.kin_hub.specs.Hubs.{agreed_in, inc_in}
+use Rattle.kin_blocks.specs.Snaps.{joined}
+use Rattle.kin_blocks.specs.Wholes.{IsWhole, told_out, told_in}
+use Rattle.kin_hub.specs.Hubs.{KeepsEpoch, agreed_in, inc_in, snap_in}
 use Rattle.kin_world.specs.Worlds.{WorldView}
 use Rattle.kin_world.specs.Steps.{IsTold}
 use Rattle.kin_world.specs.Stands.{Stands}
@@ -27,3 +33,17 @@ abbrev pub AdriftLaw : Type 0
 AdriftLaw = (set : Setting) (w : WorldView) (h : List Event) (x : Piece) (taken : Taken) (new : CoreView) → Stands set w h →
     x.part.0 < set.parts → x.stamp.ingest.0 < nodes set → has (sent set h) x.stamp ≡ true →
     x.base ≡ base set h x.stamp.ingest.0 x.stamp.inc.0 → CoreTakes w.hub.core x taken new → IsTold taken
+
+-- What a kept epoch's stores are: the graph of all records within the history's vector, whole. No edge has one half only, and both halves
+-- tell the same of it.
+pub record IsOneMoment (set : Setting) (w : WorldView) (h : List Event) (k : ℕ) : Type 0 where
+  pub whole : IsWhole (snapshot set.feeds (vector set h) k) (joined (snap_in w.hub k))
+  pub halves : (u v : User) → told_out (joined (snap_in w.hub k)) u v ≡ told_in (joined (snap_in w.hub k)) u v
+
+-- An epoch is kept exactly where every partition has committed it and it isn't before the last mined one; and then it is one moment.
+pub record KeepsMoments (set : Setting) (w : WorldView) (h : List Event) (k : ℕ) : Type 0 where
+  pub kept : KeepsEpoch w.hub k ↔ ((mined set h ≤ k) × ((p : ℕ) → p < set.parts → k ≤ committed set h p))
+  pub moment : KeepsEpoch w.hub k → IsOneMoment set w h k
+
+abbrev pub MomentLaw : Type 0
+MomentLaw = (set : Setting) (w : WorldView) (h : List Event) (k : ℕ) → Stands set w h → KeepsMoments set w h k

@@ -2,16 +2,18 @@
 use Rattle.std.specs.Prelude.{ℕ, ◌≡◌, ◌<◌, ◌+◌, true, List, [], ◌∷◌, length, slice_index}
 use Rattle.kin_ids.specs.declared.stamps.Stamp.{Stamp}
 use Rattle.kin_ids.specs.Lines.{upto, made_by, seen_in}
+use Rattle.kin_ids.specs.Sizes.{AreWithinLimits}
 use Rattle.kin_ingest.specs.declared.ingests.Ingest.{Ingest}
 use Rattle.kin_script.specs.declared.events.Event.{Event}
 use Rattle.kin_script.specs.declared.outcomes.Outcome.{Outcome}
 use Rattle.kin_history.specs.Setting.{Setting, nodes, feed_len, IsHistory}
 use Rattle.kin_history.specs.Lines.{up, inc, line, next, sent, delivered, reported, has_reported, bases, base, top_in, seen, agreed}
 use Rattle.kin_history.specs.Vectors.{cuts, vector, committed}
+use Rattle.kin_history.specs.Mining.{mined}
 use Rattle.kin_history.specs.Outcomes.{outcome_of}
 use Rattle.kin_held.specs.ChainOf.{IsChainOf}
 use Rattle.kin_table.specs.Tables.{inc_in}
-use Rattle.kin_hub.specs.Hubs.{HubView, chain_in, row_in}
+use Rattle.kin_hub.specs.Hubs.{HubView, chain_in, row_in, committed_in, first_in}
 use Rattle.kin_hub.specs.Stands.{HubStands}
 use Rattle.kin_world.specs.declared.sent_logs.Sent.{Sent}
 use Rattle.kin_world.specs.Worlds.{WorldView, IsWorld, node_at}
@@ -38,10 +40,11 @@ agreed_line set h i = upto (agreed set h i) (line set h i)
 
 -- The world stands for a history.
 pub record Stands (set : Setting) (w : WorldView) (h : List Event) : Type 0 where
-  -- it is of this setting, and the events are in range
+  -- it is of this setting, whose feeds are within the limits, and the events are in range
   pub world : IsWorld w
   pub feeds : w.feeds ≡ set.feeds
   pub parts : w.parts ≡ set.parts
+  pub limits : AreWithinLimits set.feeds
   pub history : IsHistory set h
   -- each node is as the history says, and the stamps are all that were made, in order, with their bases
   pub ingests : (i : ℕ) → i < nodes set → node_at w i ≡ node_of set h i
@@ -57,8 +60,11 @@ pub record Stands (set : Setting) (w : WorldView) (h : List Event) : Type 0 wher
       inc_in (row_in w.hub p).incs i ≡ seen_in (reported set h p) i
   pub row_tops : (p i : ℕ) → p < set.parts → i < nodes set → has_reported set h p ≡ true →
       slice_index (row_in w.hub p).tops i ≡ top_in set (reported set h p) h i (seen_in (reported set h p) i)
-  -- there is a vector of each cut, and the hub stands for the agreed lines, the bases and the vectors
+  -- there is a vector of each cut, each partition has committed what the history says, and no epoch from the last mined one on was let go
   pub vectors : length w.hub.core.table.vectors ≡ cuts set h + 1
+  pub committed_are : (p : ℕ) → p < set.parts → committed_in w.hub p ≡ committed set h p
+  pub kept : first_in w.hub ≡ mined set h
+  -- the hub stands for the agreed lines, the bases and the vectors
   pub hub : HubStands set.parts set.feeds (agreed_line set h) (bases set h) (vector set h) w.hub
 
 -- it stands for some history

@@ -2,7 +2,9 @@
 use Rattle.std.specs.Prelude.{ℕ, ◌≡◌, ◌≢◌, ◌<◌, ◌≤◌, ◌+◌, IsTrue, true, false, List, [], ◌∷◌, ◌++◌, Option, Some, None, length, slice_set}
 use Rattle.kin_ids.specs.declared.ids.Inc.{Inc}
 use Rattle.kin_ids.specs.declared.ops.Piece.{Piece}
+use Rattle.kin_ids.specs.declared.ids.Epoch.{Epoch}
 use Rattle.kin_ids.specs.declared.stamps.Stamp.{Stamp}
+use Rattle.kin_ids.specs.declared.stamps.End.{End}
 use Rattle.kin_ids.specs.Lines.{next_stamp}
 use Rattle.kin_ids.specs.Operations.{Fits}
 use Rattle.kin_ids.specs.Order.{feed_at}
@@ -14,9 +16,10 @@ use Rattle.kin_held.specs.declared.answers.Taken.{Taken}
 use Rattle.kin_held.specs.declared.answers.Taken.TheVariants as taken
 use Rattle.kin_table.specs.declared.answers.Raised.{Raised}
 use Rattle.kin_table.specs.declared.answers.Raised.TheVariants as raised
-use Rattle.kin_hub.specs.Cores.{CoreTakes, with_seal}
-use Rattle.kin_hub.specs.Hubs.{HubView, agreed_in, inc_in}
-use Rattle.kin_hub.specs.Goes.{HubPlaces, HubSeals}
+use Rattle.kin_hub.specs.Cores.{CoreTakes, with_seal, with_cut}
+use Rattle.kin_hub.specs.Hubs.{HubView, agreed_in, inc_in, missing_in, cuts_in, committed_in}
+use Rattle.kin_hub.specs.Commits.{Commits}
+use Rattle.kin_hub.specs.Goes.{HubKeeps, HubPlaces, HubSeals, HubCuts}
 use Rattle.kin_world.specs.declared.sent_logs.Sent.{Sent}
 use Rattle.kin_world.specs.Worlds.{WorldView, node_at}
 
@@ -53,7 +56,7 @@ abbrev pub after_restart : WorldView → ℕ → Inc → ℕ → WorldView
 after_restart w j c base =
     record w {
       ingests = slice_set w.ingests j (record (node_at w j) { inc = c; base = base; next = base; up = true });
-      hub = record { core = with_seal w.hub.core j };
+      hub = record w.hub { core = with_seal w.hub.core j };
     }
 
 -- the incarnation is the next one, and the base the agreed position
@@ -115,6 +118,7 @@ pub record TakesPiece (old : WorldView) (s : Sent) (p : ℕ) (o : Outcome) (new 
   pub taken : Taken
   pub answer : o ≡ told taken
   pub takes : CoreTakes old.hub.core piece taken new.hub.core
+  pub versions : new.hub.versions ≡ old.hub.versions
   pub places : HubPlaces old.hub piece new.hub
   pub world : new ≡ record old { hub = new.hub }
 
@@ -127,3 +131,30 @@ Delivers old p (Some s) o new = TakesPiece old s p o new
 abbrev pub told_raise : Raised → Outcome
 told_raise (raised.Raised to) = outcome.Raised to
 told_raise (raised.Level to) = outcome.Level to
+
+-- every partition has reported, the epoch is the next one, and the hub has one more vector
+pub record MakesCut (old : WorldView) (n : Option ℕ) (k : Epoch) (new : WorldView) : Type 0 where
+  pub all : missing_in old.hub ≡ None
+  pub epoch : k.0 ≡ cuts_in old.hub + 1
+  pub ends : List End
+  pub hub : new.hub ≡ record old.hub { core = with_cut old.hub.core ends }
+  pub cuts : HubCuts old.hub n new.hub
+  pub world : new ≡ record old { hub = new.hub }
+
+abbrev pub Cuts : WorldView → Option ℕ → Outcome → WorldView → Type 0
+Cuts old n (outcome.Refused (refusal.NotReported p)) new = (missing_in old.hub ≡ Some p.0) × (new ≡ old)
+Cuts old n (outcome.CutMade k) new = MakesCut old n k new
+Cuts old n _ new = ⊥
+
+-- partition p commits its next epoch, and all else stays
+pub record MakesCommit (old : WorldView) (p : ℕ) (k : Epoch) (new : WorldView) : Type 0 where
+  pub left : committed_in old.hub p ≢ cuts_in old.hub
+  pub epoch : k.0 ≡ committed_in old.hub p + 1
+  pub commits : Commits old.hub p new.hub
+  pub keeps : HubKeeps old.hub new.hub
+  pub world : new ≡ record old { hub = new.hub }
+
+abbrev pub CommitsPart : WorldView → ℕ → Outcome → WorldView → Type 0
+CommitsPart old p (outcome.Refused refusal.NothingCut) new = (committed_in old.hub p ≡ cuts_in old.hub) × (new ≡ old)
+CommitsPart old p (outcome.Committed k) new = MakesCommit old p k new
+CommitsPart old p _ new = ⊥

@@ -1,5 +1,5 @@
 -- What contracts see of a world.
-use Rattle.std.specs.Prelude.{ℕ, ◌≡◌, true, List, [], length, slice_index_or}
+use Rattle.std.specs.Prelude.{ℕ, ◌≡◌, ◌<◌, ◌-◌, ◌^◌, true, List, [], length, slice_index_or}
 use Rattle.kin_ids.specs.declared.ops.Record.{Record}
 use Rattle.kin_ingest.specs.declared.ingests.Ingest.{Ingest}
 use Rattle.kin_script.specs.declared.events.Event.{Event}
@@ -7,7 +7,7 @@ use Rattle.kin_script.specs.declared.outcomes.Outcome.{Outcome}
 use Rattle.kin_script.specs.declared.events.Event.TheVariants as event
 use Rattle.kin_script.specs.declared.outcomes.Outcome.TheVariants as outcome
 use Rattle.kin_history.specs.Setting.{Setting}
-use Rattle.kin_hub.specs.Hubs.{HubView, parts_in, nodes_in}
+use Rattle.kin_hub.specs.Hubs.{HubView, parts_in, nodes_in, cuts_in}
 use Rattle.kin_world.specs.declared.sent_logs.Sent.{Sent}
 
 -- The feeds by their records, the number of partitions, the nodes, the stamps that were made with their bases, and the hub.
@@ -34,7 +34,7 @@ node_at w i = slice_index_or w.ingests i no_node
 abbrev pub setting_of : WorldView → Setting
 setting_of w = record { feeds = w.feeds; parts = w.parts; landmarks = [] }
 
--- the events of nodes, partitions and agreement
+-- the events of nodes, partitions, agreement and cuts
 abbrev pub IsBuilt : Event → Type 0
 IsBuilt (event.Stamp j n) = Unit {0}
 IsBuilt (event.Deliver p j c to) = Unit {0}
@@ -42,11 +42,16 @@ IsBuilt (event.Report p) = Unit {0}
 IsBuilt (event.Raise j) = Unit {0}
 IsBuilt (event.Crash j) = Unit {0}
 IsBuilt (event.Restart j) = Unit {0}
-IsBuilt (event.Cut n) = ⊥
-IsBuilt (event.Commit p) = ⊥
+IsBuilt (event.Cut n) = Unit {0}
+IsBuilt (event.Commit p) = Unit {0}
 IsBuilt event.Begin = ⊥
 IsBuilt (event.Turn u) = ⊥
 IsBuilt event.Mine = ⊥
+
+-- the number of an epoch has 32 bits
+abbrev pub HasRoom : WorldView → Event → Type 0
+HasRoom w (event.Cut n) = cuts_in w.hub < 2 ^ 32 - 1
+HasRoom w _ = Unit {0}
 
 -- a refused event changes nothing
 abbrev pub KeptWhereRefused : WorldView → Outcome → WorldView → Type 0

@@ -1,15 +1,16 @@
 //! The core of a world: what each event does.
 
-ghost use Rattle.std.specs.Prelude.{◌≡◌, ◌<◌, ◌≤◌, ℕ, List, [], IfOk, OnErr, length, map};
+ghost use Rattle.std.specs.Prelude.{◌≡◌, ◌<◌, ◌≤◌, ℕ, List, [], All, IfOk, OnOk, OnErr, length, map, sum_by};
 ghost use Rattle.kin_ids.specs.declared.ids.User.{User};
 ghost use Rattle.kin_ids.specs.declared.ops.Record.{Record};
+ghost use Rattle.kin_ids.specs.Sizes.{IsSmall};
 ghost use Rattle.kin_script.specs.declared.events.Event.{Event};
 ghost use Rattle.kin_world.specs.Opens.{AreFirst};
 
 use crate::sent_logs::{Sent, SentLog};
 use crate::told::{told, told_raise};
 use kin_feed::Feed;
-use kin_hub::{Hub, Raised};
+use kin_hub::{CommitRefused, CutRefused, Hub, Raised};
 use kin_ids::{Inc, IngestId, Memory, PartId, Piece};
 use kin_ingest::{Ingest, RestartRefused, StampRefused};
 use kin_ops::piece_of;
@@ -42,16 +43,18 @@ impl Core {
     ghost use Rattle.kin_history.specs.Setting.{IsEvent};
     ghost use Rattle.kin_table.specs.Tables.{raised_of};
     ghost use Rattle.kin_hub.specs.Cores.{ready, with_report, with_raise};
-    ghost use Rattle.kin_hub.specs.Hubs.{agreed_in};
+    ghost use Rattle.kin_hub.specs.Hubs.{agreed_in, cuts_in};
+    ghost use Rattle.kin_hub.specs.Commits.{HasSmallFeeds};
     ghost use Rattle.kin_hub.specs.Goes.{HubKeeps, HubRaises};
     ghost use Rattle.kin_world.specs.SentStamps.{find_sent};
-    ghost use Rattle.kin_world.specs.Worlds.{IsWorld, IsBuilt, KeptWhereRefused, setting_of};
-    ghost use Rattle.kin_world.specs.Steps.{Stamps, Crashes, Restarts, MayRestart, IsStamped, IsPieceFor, Delivers};
+    ghost use Rattle.kin_world.specs.Worlds.{IsWorld, IsBuilt, HasRoom, KeptWhereRefused, setting_of};
+    ghost use Rattle.kin_world.specs.Steps.{Stamps, Crashes, Restarts, MayRestart, IsStamped, IsPieceFor, Delivers, Cuts, CommitsPart};
     ghost use Rattle.kin_world.specs.Stands.{Stands, HasStory, Keeps};
 
     pub fn open(alloc: Global, feeds: Vec<Feed>, parts: u16) -> Result<Core, Memory>
         requires some { 0 < length feeds.items }
         requires few { length feeds.items ≤ 16 }
+        requires few_records { sum_by (λ (feed : List Record). length feed) feeds.items ≤ 2097152 }
         requires parts { 0 < parts }
         ensures stands { IfOk result (λ w. (landmarks : List User)
             → Stands (record { feeds = feeds.items; parts = parts; landmarks = landmarks }) w []) }
@@ -72,6 +75,7 @@ impl Core {
     pub fn step(&mut self, event: Event) -> Result<Outcome, Memory>
         requires event { IsEvent (setting_of self.old) event }
         requires built { IsBuilt event }
+        requires room { HasRoom self.old event }
         requires story { HasStory self.old }
         ensures keeps { IfOk result (λ outcome. Keeps self.old event outcome self.new) }
         ensures refused { IfOk result (λ outcome. KeptWhereRefused self.old outcome self.new) }
@@ -92,11 +96,9 @@ impl Core {
             Event::Raise { ingest } => Ok(told_raise(self.hub.raise(ingest))),
             Event::Crash { ingest } => Ok(self.crash(ingest)),
             Event::Restart { ingest } => Ok(self.restart(ingest)),
-            Event::Cut { .. }
-            | Event::Commit { .. }
-            | Event::Begin
-            | Event::Turn { .. }
-            | Event::Mine => unreachable!(),
+            Event::Cut { n } => self.cut(n),
+            Event::Commit { part } => self.commit(part),
+            Event::Begin | Event::Turn { .. } | Event::Mine => unreachable!(),
         }
     }
 
@@ -190,12 +192,42 @@ impl Core {
             Err(RestartRefused::IncarnationsSpent) => Outcome::Refused(Refusal::IncarnationsSpent),
         }
     }
+
+    fn cut(&mut self, n: Option<u64>) -> Result<Outcome, Memory>
+        requires { cuts_in self.old.hub < u32.MAX }
+        ensures cuts { IfOk result (λ outcome. Cuts self.old n outcome self.new) }
+        ensures err { OnErr result (self.new ≡ self.old) }
+        ensures world { IsWorld self.new }
+    {
+        match self.hub.cut(n) {
+            Ok(cut) => Ok(Outcome::CutMade(cut.epoch)),
+            Err(CutRefused::NotReported(part)) => {
+                Ok(Outcome::Refused(Refusal::NotReported(part)))
+            }
+            Err(CutRefused::Memory) => Err(Memory),
+        }
+    }
+
+    fn commit(&mut self, part: PartId) -> Result<Outcome, Memory>
+        requires part { part.0 < self.old.parts }
+        requires small { HasSmallFeeds self.old.hub }
+        ensures commits { IfOk result (λ outcome. CommitsPart self.old part.0 outcome self.new) }
+        ensures err { OnErr result (self.new ≡ self.old) }
+        ensures world { IsWorld self.new }
+    {
+        match self.hub.commit(part) {
+            Ok(epoch) => Ok(Outcome::Committed(epoch)),
+            Err(CommitRefused::NothingCut) => Ok(Outcome::Refused(Refusal::NothingCut)),
+            Err(CommitRefused::Memory) => Err(Memory),
+        }
+    }
 }
 
 // A node of each feed, at its start.
 fn first_nodes(alloc: Global, feeds: &[Feed]) -> Result<Vec<Ingest>, Memory>
     requires { length feeds.now ≤ 16 }
-    ensures { IfOk result (λ nodes. AreFirst feeds.now nodes.items) }
+    ensures nodes { IfOk result (λ nodes. AreFirst feeds.now nodes.items) }
+    ensures small { OnOk result (All (λ (feed : List Record). All IsSmall feed) feeds.now) }
 {
     let mut ingests = Vec::with_capacity(alloc, feeds.len())?;
     for i in 0..feeds.len() {

@@ -1,6 +1,6 @@
 //! The world.
 
-ghost use Rattle.std.specs.Prelude.{◌≡◌, ◌<◌, ◌≤◌, ℕ, List, [], IfOk, OnOk, OnErr, length, slice_get, sum_by};
+ghost use Rattle.std.specs.Prelude.{◌≡◌, ◌<◌, ◌≤◌, ◌+◌, ℕ, List, [], IfOk, OnOk, OnErr, length, slice_get, sum_by};
 ghost use Rattle.kin_ids.specs.declared.ids.User.{User};
 ghost use Rattle.kin_ids.specs.declared.ops.Record.{Record};
 
@@ -35,7 +35,8 @@ impl Model for World {
 impl World {
     ghost use Rattle.kin_history.specs.Setting.{IsEvent};
     ghost use Rattle.kin_world.specs.SentStamps.{find_sent};
-    ghost use Rattle.kin_world.specs.Worlds.{IsBuilt, KeptWhereRefused, setting_of, node_at};
+    ghost use Rattle.kin_hub.specs.Hubs.{cuts_in};
+    ghost use Rattle.kin_world.specs.Worlds.{IsBuilt, HasRoom, KeptWhereRefused, setting_of, node_at};
     ghost use Rattle.kin_world.specs.Stands.{Stands, Keeps};
 
     /// Nothing happened yet. It costs O(n) in the nodes of all partitions.
@@ -54,14 +55,18 @@ impl World {
     }
 
     /// One event. A stamp, a crash and a restart cost O(1) on average, a delivery the operations of its transaction and a logarithm of
-    /// the early pieces for each piece that joins, a report O(n) in the nodes, and a raise a search by halves in each
-    /// partition and the stamps that are new.
+    /// the early pieces for each piece that joins, a report O(n) in the nodes, a raise a search by halves in each
+    /// partition and the stamps that are new, a cut O(n) in the partitions, the nodes and what it may take, and a commit a copy
+    /// of the partition's store and what the epoch's pieces cost. A cut has room while fewer than 2^32 - 1 epochs are cut; no
+    /// event cuts more than one.
     pub fn step(&mut self, event: Event) -> Result<Outcome, Memory>
         requires event { IsEvent (setting_of self.old) event }
         requires built { IsBuilt event }
+        requires room { HasRoom self.old event }
         ensures keeps { IfOk result (λ outcome. Keeps self.old event outcome self.new) }
         ensures refused { IfOk result (λ outcome. KeptWhereRefused self.old outcome self.new) }
         ensures setting { OnOk result (setting_of self.new ≡ setting_of self.old) }
+        ensures cuts { cuts_in self.new.hub ≤ cuts_in self.old.hub + 1 }
         ensures err { OnErr result (self.new ≡ self.old) }
     {
         self.core.step(event)

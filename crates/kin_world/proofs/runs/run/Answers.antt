@@ -1,4 +1,4 @@
-use Rattle.std.proofs.Common.{◌≡◌, ◌∙◌, ◌+◌, ◌++◌, ◌∷◌, [], List, sym, ap, subst, get_or, take}
+use Rattle.std.proofs.Common.{◌≡◌, ◌∙◌, ◌+◌, ◌++◌, ◌∷◌, [], List, sym, ap, subst, get_or, take, arith}
 use Rattle.std.proofs.lemmas.List.{take_more}
 use Rattle.kin_ids.specs.declared.ids.IngestId.{IngestId}
 use Rattle.kin_script.specs.declared.events.Event.{Event}
@@ -6,6 +6,7 @@ use Rattle.kin_script.specs.declared.events.Event.TheVariants as event
 use Rattle.kin_script.specs.declared.outcomes.Outcome.{Outcome}
 use Rattle.kin_history.specs.Setting.{Setting, IsEvent}
 use Rattle.kin_world.specs.Runs.{Runs, RunsInPart}
+use Rattle.kin_world.proofs.Cutting.{has-room}
 use Rattle.kin_world.proofs.Running.{on_err, runs-push}
 use Rattle.kin_world.proofs.runs.run.Goals as goal
 
@@ -17,6 +18,13 @@ step-requires-clause-event c =
     let k = c.loop-event.event-index in
     subst (λ (set : Setting). IsEvent set (get_or c.args.events.now k no_event)) (sym c.loop-event.invariant.setting) (c.requires.events k no_event c.loop-event-test.true)
 
+pub step-requires-clause-room : goal.step-requires-clause-room
+step-requires-clause-room c =
+    let more = c.loop-event-test.true in
+    let cuts = c.loop-event.invariant.cuts in
+    let room = c.requires.room in
+    has-room c.loop-event.world _ (omega arith)
+
 pub loop-event-preserved : goal.loop-event-preserved
 loop-event-preserved c =
     let k = c.loop-event.event-index in
@@ -24,6 +32,7 @@ loop-event-preserved c =
     let runs = runs-push c.args.world.now c.loop-event.world c.step.new.self (take k c.args.events.now) c.loop-event.told.items e c.in_ok-step.field-0 c.loop-event.invariant.runs c.in_ok-step.ensures.keeps in
     record {
       setting = c.in_ok-step.ensures.setting ∙ c.loop-event.invariant.setting;
+      cuts = let was = c.loop-event.invariant.cuts in let one = c.in_ok-step.ensures.cuts in omega arith;
       runs = rw (take_more c.args.events.now k no_event c.loop-event-test.true, c.in_ok-push.ensures.items) runs;
     }
 

@@ -1,9 +1,18 @@
-use Rattle.std.proofs.Common.{subst, sym}
+use Rattle.std.proofs.Common.{sym, subst}
+use Rattle.kin_blocks.specs.Versions.{VersionsView, IsVersions}
 use Rattle.kin_hub.specs.Cores.{CoreView, IsCore}
 use Rattle.kin_hub.specs.Stands.{HasStands}
-use Rattle.kin_hub.proofs.Goings.{opens-some}
+use Rattle.kin_hub.specs.Opens.{first_core}
+use Rattle.kin_hub.proofs.Goings.{opens-some, opens}
 use Rattle.kin_hub.proofs.hubs.Hub.new.Goals as goal
 
 pub invariant_of-result : goal.invariant_of-result
-invariant_of-result c = subst (λ (v : CoreView). HasStands (record { core = v })) (sym c.in_ok-new.ensures.value)
-    (opens-some c.args.nodes c.args.parts (subst IsCore c.in_ok-new.ensures.value c.in_ok-new.ensures.core))
+invariant_of-result c =
+    let core = c.in_ok-new.ensures in
+    let versions = c.in_ok-new-2.ensures in
+    subst (λ (v : CoreView). HasStands (record { core = v; versions = c.in_ok-new-2.field-0 })) (sym core.value)
+    (subst (λ (v : VersionsView). HasStands (record { core = first_core c.args.nodes c.args.parts; versions = v })) (sym versions.value)
+    (opens-some c.args.nodes c.args.parts (subst IsCore core.value core.core) (subst IsVersions versions.value versions.versions)))
+
+pub returns-clause-stands : goal.returns-clause-stands
+returns-clause-stands c = λ feeds count. opens c.args.nodes c.args.parts c.in_ok-new.field-0 c.in_ok-new-2.field-0 c.in_ok-new.ensures.core c.in_ok-new.ensures.value c.in_ok-new-2.ensures.versions c.in_ok-new-2.ensures.value feeds count

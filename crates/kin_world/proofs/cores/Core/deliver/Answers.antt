@@ -38,6 +38,7 @@ returns-clause-delivers c =
       taken = c.in_ok-taken.taken;
       answer = c.told.ensures;
       takes = subst (λ (w : WorldView). CoreTakes w.hub.core c.in_ok-piece.piece c.in_ok-taken.taken c.take.new.self.core) c.self.view_is c.in_ok-taken.ensures.taken;
+      versions = subst (λ (w : WorldView). c.take.new.self.versions ≡ w.hub.versions) c.self.view_is c.in_ok-taken.ensures.versions;
       places = subst (λ (w : WorldView). HubPlaces w.hub c.in_ok-piece.piece c.take.new.self) c.self.view_is c.in_ok-taken.ensures.stands;
       world = ap (λ (w : WorldView). record w { hub = c.take.new.self }) c.self.view_is;
     })

@@ -14,6 +14,8 @@ use Rattle.kin_world.proofs.Reports.{report-keeps}
 use Rattle.kin_world.proofs.Raises.{raise-keeps}
 use Rattle.kin_world.proofs.Crashes.{crash-keeps}
 use Rattle.kin_world.proofs.Restarting.{restart-keeps, may-restart}
+use Rattle.kin_world.proofs.Committing.{commit-keeps, commit-kept, small-feeds}
+use Rattle.kin_world.proofs.Cutting.{cut-keeps, cut-kept}
 use Rattle.kin_world.proofs.cores.Core.step.Goals as goal
 
 pub restart-requires-clause-may : goal.restart-requires-clause-may
@@ -75,3 +77,25 @@ returns-in-Crash-clause-refused c = crash-kept c.args.self.now c.in-Crash.ingest
 
 pub returns-in-Restart-clause-refused : goal.returns-in-Restart-clause-refused
 returns-in-Restart-clause-refused c = restart-kept c.args.self.now c.in-Restart.ingest.0 c.restart.result c.restart.new.self c.restart.ensures.restarts
+
+pub returns-in-Cut-clause-keeps : goal.returns-in-Cut-clause-keeps
+returns-in-Cut-clause-keeps c =
+    let old = c.args.self.now in
+    let new = c.cut.new.self in
+    let legal = rw c.in-Cut.is at c.requires.event in
+    rw c.in-Cut.is (if_ok c.cut.result _ _ (λ o cuts. cut-keeps old c.in-Cut.n o new legal cuts) c.cut.ensures.cuts)
+
+pub returns-in-Cut-clause-refused : goal.returns-in-Cut-clause-refused
+returns-in-Cut-clause-refused c =
+    if_ok c.cut.result _ _ (λ o cuts. cut-kept c.args.self.now c.in-Cut.n o c.cut.new.self cuts) c.cut.ensures.cuts
+
+pub returns-in-Commit-clause-keeps : goal.returns-in-Commit-clause-keeps
+returns-in-Commit-clause-keeps c =
+    let old = c.args.self.now in
+    let new = c.commit.new.self in
+    let legal = rw c.in-Commit.is at c.requires.event in
+    rw c.in-Commit.is (if_ok c.commit.result _ _ (λ o made. commit-keeps old c.in-Commit.part o new legal made) c.commit.ensures.commits)
+
+pub returns-in-Commit-clause-refused : goal.returns-in-Commit-clause-refused
+returns-in-Commit-clause-refused c =
+    if_ok c.commit.result _ _ (λ o made. commit-kept c.args.self.now c.in-Commit.part.0 o c.commit.new.self made) c.commit.ensures.commits

@@ -1,0 +1,137 @@
+-- What an epoch's pieces make of a partition's store.
+use Rattle.std.proofs.Common.{◌≡◌, ℕ, zero, suc, ◌+◌, ◌<◌, ◌≤◌, Bool, true, false, cond, eqb, List, [], ◌∷◌, ◌++◌, refl, sym, ◌∙◌, ap, subst, arith, length, get_or, take, drop}
+use Rattle.std.specs.List.{All, AllByRecursion}
+use Rattle.std.specs.Prelude.{filter}
+use Rattle.std.proofs.lemmas.Bool.{cond_both, eqb-true}
+use Rattle.std.proofs.lemmas.List.{take_more, take-append-drop}
+use Rattle.std.proofs.lemmas.List.Elements.{All-nil, All-cons, All-head, All-tail}
+use Rattle.kin_ids.specs.declared.ids.User.{User}
+use Rattle.kin_ids.specs.declared.ops.Op.{Op}
+use Rattle.kin_ids.specs.declared.ops.Op.TheVariants as op
+use Rattle.kin_ids.specs.declared.ops.Numbered.{Numbered}
+use Rattle.kin_ids.specs.declared.ops.Piece.{Piece}
+use Rattle.kin_ids.specs.declared.ops.Record.{Record}
+use Rattle.kin_ids.specs.declared.stamps.End.{End}
+use Rattle.kin_ids.specs.declared.stamps.Place.{Place}
+use Rattle.kin_ids.specs.Users.{same_user}
+use Rattle.kin_ids.specs.Graph.{Graph}
+use Rattle.kin_ids.specs.Order.{feed_at, entries, between, of_epoch, folded}
+use Rattle.kin_ids.specs.Operations.{op_part, all_ops, part_ops}
+use Rattle.kin_ids.specs.Parts.{PartView, IsPart, op_applied, ops_applied}
+use Rattle.kin_ids.proofs.Joins.{folded-append}
+use Rattle.kin_ids.proofs.Same.{same_user-true}
+use Rattle.kin_ids.proofs.Runs as runs
+use Rattle.kin_ids.proofs.Runs.{HasOps, pieces-part}
+use Rattle.kin_graph.specs.State.{PartState, after}
+use Rattle.kin_held.specs.Chains.{ChainView, chain_at, IsRun, pieces_upto}
+use Rattle.kin_table.specs.Vectors.{end_at}
+use Rattle.kin_hub.specs.Commits.{pieces_applied, nodes_applied, IsOfStore}
+use Rattle.kin_hub.specs.Lines.{IsHubPiece}
+
+-- nobody is mentioned less after more operations
+said-one : (at : Place) (v : PartView) (o : Op) (u : User) → v.said u ≤ (op_applied at v o).said u
+said-one at v (op.Said w) u = here (same_user w u) refl
+  where
+    here : (b : Bool) → same_user w u ≡ b → v.said u ≤ cond b (v.said w + 1) (v.said u)
+    here true e = let same : v.said w ≡ v.said u = ap v.said (same_user-true w u e) in omega arith
+    here false e = omega arith
+said-one at v (op.AddOut a b) u = omega arith
+said-one at v (op.AddIn a b) u = omega arith
+said-one at v (op.DropOut a b) u = omega arith
+said-one at v (op.DropIn a b) u = omega arith
+said-one at v (op.MentionOut a b) u = omega arith
+said-one at v (op.MentionIn a b) u = omega arith
+said-one at v (op.Use a t) u = omega arith
+said-one at v (op.TagUse t a) u = omega arith
+
+said-ops : (e i : ℕ) (v : PartView) (xs : List Numbered) (u : User) → v.said u ≤ (ops_applied e i v xs).said u
+said-ops e i v [] u = omega arith
+said-ops e i v (x ∷ xs) u =
+    let at : Place = record { epoch = record { 0 = e }; ingest = record { 0 = i }; number = x.number } in
+    let one = said-one at v x.op u in
+    let more = said-ops e i (op_applied at v x.op) xs u in
+    omega arith
+
+pub said-pieces : (e : ℕ) (v : PartView) (xs : List Piece) (u : User) → v.said u ≤ (pieces_applied e v xs).said u
+said-pieces e v [] u = omega arith
+said-pieces e v (x ∷ xs) u =
+    let one = said-ops e x.stamp.ingest.0 v x.ops u in
+    let more = said-pieces e (after e x v) xs u in
+    omega arith
+
+pub said-nodes : (e : ℕ) (held : List ChainView) (ends : List End) (v : PartView) (i d : ℕ) (u : User) → (nodes_applied e held ends v i).said u ≤ (nodes_applied e held ends v (i + d)).said u
+said-nodes e held ends v i zero u = let same : (nodes_applied e held ends v i).said u ≡ (nodes_applied e held ends v (i + 0)).said u = (let same : i ≡ i + 0 = omega arith in ap (λ (n : ℕ). (nodes_applied e held ends v n).said u) same) in omega arith
+said-nodes e held ends v i (suc d) u =
+    let less = said-nodes e held ends v i d u in
+    let one = said-pieces e (nodes_applied e held ends v (i + d)) (pieces_upto (end_at ends (i + d)).to (chain_at held (i + d)).held) u in
+    let count : suc (i + d) ≡ i + suc d = omega arith in
+    let next : (nodes_applied e held ends v (suc (i + d))).said u ≡ (nodes_applied e held ends v (i + suc d)).said u = ap (λ (n : ℕ). (nodes_applied e held ends v n).said u) count in
+    omega arith
+
+-- pieces one after the other
+pub pieces-append : (e : ℕ) (v : PartView) (xs ys : List Piece) → pieces_applied e v (xs ++ ys) ≡ pieces_applied e (pieces_applied e v xs) ys
+pieces-append e v [] ys = refl
+pieces-append e v (x ∷ xs) ys = pieces-append e (after e x v) xs ys
+
+-- the first pieces, and one more
+pub pieces-step : (e : ℕ) (v : PartView) (xs : List Piece) (k : ℕ) (x : Piece) → k < length xs → x ≡ get_or xs k x → pieces_applied e v (take (k + 1) xs) ≡ after e x (pieces_applied e v (take k xs))
+pieces-step e v xs k x lt is =
+    ap (pieces_applied e v) (take_more xs k x lt) ∙ (pieces-append e v (take k xs) (get_or xs k x ∷ []) ∙ ap (λ (y : Piece). after e y (pieces_applied e v (take k xs))) (sym is))
+
+pub said-front : (e : ℕ) (v : PartView) (xs : List Piece) (k : ℕ) (u : User) → (pieces_applied e v (take k xs)).said u ≤ (pieces_applied e v xs).said u
+said-front e v xs k u =
+    let more = said-pieces e (pieces_applied e v (take k xs)) (drop k xs) u in
+    let same : (pieces_applied e (pieces_applied e v (take k xs)) (drop k xs)).said u ≡ (pieces_applied e v xs).said u =
+    ap (λ (w : PartView). w.said u) (sym (pieces-append e v (take k xs) (drop k xs)) ∙ ap (pieces_applied e v) (take-append-drop k xs)) in
+    omega arith
+
+-- a partition's operations live there
+passing : (parts p : ℕ) (xs : List Numbered) → All (λ (y : Numbered). op_part parts y.op ≡ p) (filter (λ y. eqb (op_part parts y.op) p) xs)
+passing parts p [] = All-nil (λ (y : Numbered). op_part parts y.op ≡ p)
+passing parts p (x ∷ xs) = cond_both (eqb (op_part parts x.op) p) (x ∷ filter (λ y. eqb (op_part parts y.op) p) xs) (filter (λ y. eqb (op_part parts y.op) p) xs) (All (λ (y : Numbered). op_part parts y.op ≡ p))
+    (λ same. All-cons (λ (y : Numbered). op_part parts y.op ≡ p) x (filter (λ y. eqb (op_part parts y.op) p) xs) (eqb-true (op_part parts x.op) p same) (passing parts p xs)) (λ _. passing parts p xs)
+
+module _ (parts : ℕ) (feeds : List (List Record)) (p i : ℕ) (bases : List ℕ) (kept : ℕ) where
+  abbrev Of : Piece → Type 0
+  Of x = IsHubPiece parts feeds p i bases kept x
+
+  -- a piece that a partition keeps is one of its store
+  pub of-store : (s : PartState) → s.part ≡ p → s.parts ≡ parts → (x : Piece) → Of x → IsOfStore s x
+  of-store s part count x of = record {
+    part = of.part ∙ sym part;
+    home = subst (λ (n : ℕ). All (λ (y : Numbered). op_part n y.op ≡ s.part) x.ops) (sym count) (subst (λ (q : ℕ). All (λ (y : Numbered). op_part parts y.op ≡ q) x.ops) (sym part)
+        (subst (All (λ (y : Numbered). op_part parts y.op ≡ p)) (sym (of.fits.exact ∙ ap (λ (q : ℕ). part_ops parts q x.stamp.from (between (feed_at feeds x.stamp.ingest.0) x.stamp.from x.stamp.to)) of.part)) (passing parts p (all_ops x.stamp.from (between (feed_at feeds x.stamp.ingest.0) x.stamp.from x.stamp.to)))));
+  }
+
+  has-ops : (x : Piece) → Of x → HasOps parts p (feed_at feeds i) x
+  has-ops x of = of.fits.exact ∙ (ap (λ (q : ℕ). part_ops parts q x.stamp.from (between (feed_at feeds x.stamp.ingest.0) x.stamp.from x.stamp.to)) of.part
+      ∙ ap (λ (j : ℕ). part_ops parts p x.stamp.from (between (feed_at feeds j) x.stamp.from x.stamp.to)) of.node)
+
+  all-ops : (xs : List Piece) → All Of xs → AllByRecursion (HasOps parts p (feed_at feeds i)) xs
+  all-ops [] all = tt
+  all-ops (x ∷ xs) all = (has-ops x (All-head Of x xs all), all-ops xs (All-tail Of x xs all))
+
+  -- their operations are those of the node
+  pieces-are : (e : ℕ) (v : PartView) (xs : List Piece) → All Of xs → pieces_applied e v xs ≡ runs.pieces_applied e i v xs
+  pieces-are e v [] all = refl
+  pieces-are e v (x ∷ xs) all =
+      ap (λ (j : ℕ). pieces_applied e (ops_applied e j v x.ops) xs) (All-head Of x xs all).node ∙ pieces-are e (ops_applied e i v x.ops) xs (All-tail Of x xs all)
+
+  -- a run of pieces takes the part of a graph to the part of the graph after the run's records
+  pub run-part : (e at to : ℕ) (xs : List Piece) (g : Graph) (v : PartView) → IsRun at xs to → All Of xs → IsPart parts p g v →
+      IsPart parts p (folded g (entries e i at (between (feed_at feeds i) at to))) (pieces_applied e v xs)
+  run-part e at to xs g v run all part =
+      subst (λ (w : PartView). IsPart parts p (folded g (entries e i at (between (feed_at feeds i) at to))) w) (sym (pieces-are e v xs all))
+      (subst (λ (n : ℕ). IsPart parts p (folded g (entries e i at (between (feed_at feeds i) at n))) (runs.pieces_applied e i v xs)) run.1
+      (pieces-part parts p e i (feed_at feeds i) at xs g v run.0 (all-ops xs all) part))
+
+-- the pieces of the first n nodes, each from one position to another
+pub nodes-part : (parts : ℕ) (feeds : List (List Record)) (p e : ℕ) (held : List ChainView) (ends : List End) (was now : ℕ → ℕ) (bases : ℕ → List ℕ) (kept : ℕ → ℕ) (g : Graph) (v : PartView) (n : ℕ) →
+    ((i : ℕ) → i < n → IsRun (was i) (pieces_upto (end_at ends i).to (chain_at held i).held) (now i)) →
+    ((i : ℕ) → i < n → All (λ (x : Piece). IsHubPiece parts feeds p i (bases i) (kept i) x) (pieces_upto (end_at ends i).to (chain_at held i).held)) →
+    IsPart parts p g v → IsPart parts p (folded g (of_epoch feeds e was now n)) (nodes_applied e held ends v n)
+nodes-part parts feeds p e held ends was now bases kept g v zero runs all part = part
+nodes-part parts feeds p e held ends was now bases kept g v (suc n) runs all part =
+    let before = nodes-part parts feeds p e held ends was now bases kept g v n (λ i lt. runs i (omega arith)) (λ i lt. all i (omega arith)) part in
+    subst (λ (graph : Graph). IsPart parts p graph (nodes_applied e held ends v (suc n))) (sym (folded-append g (of_epoch feeds e was now n) (entries e n (was n) (between (feed_at feeds n) (was n) (now n)))))
+    (run-part parts feeds p n (bases n) (kept n) e (was n) (now n) (pieces_upto (end_at ends n).to (chain_at held n).held) (folded g (of_epoch feeds e was now n)) (nodes_applied e held ends v n) (runs n (omega arith)) (all n (omega arith)) before)
