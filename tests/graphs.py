@@ -1,0 +1,87 @@
+"""Records and the one graph that they make, from the definitions of docs/MODEL.md."""
+import csv
+import io
+import re
+
+DECIMAL = re.compile(r'0|[1-9][0-9]*', re.ASCII)
+TAG = re.compile(r'[a-z0-9_]{1,24}', re.ASCII)
+
+
+def number(text, values):
+    """The number among `values` that is written so: without sign and without leading zero. Else None."""
+    return int(text) if DECIMAL.fullmatch(text) and int(text) in values else None
+
+
+def user(text):
+    return number(text, range(2 ** 32))
+
+
+def item(text):
+    """What an item of a tweet names: ('@', user), ('#', tag), or None."""
+    if text.startswith('@') and user(text[1:]) is not None:
+        return '@', user(text[1:])
+    return ('#', text[1:]) if text.startswith('#') and TAG.fullmatch(text[1:]) else None
+
+
+def record(row):
+    """('f', u, v), ('x', u, v), ('t', u, items), or ('bad',)."""
+    if row[0] in ('f', 'x') and len(row) == 3:
+        u, v = user(row[1]), user(row[2])
+        if u is not None and v is not None and u != v:
+            return row[0], u, v
+    if row[0] == 't' and 3 <= len(row) <= 18:
+        u, items = user(row[1]), [item(text) for text in row[2:]]
+        if u is not None and None not in items:
+            return 't', u, items
+    return ('bad',)
+
+
+def records(text):
+    """The records of a feed: a row of CSV each, and none for an empty line."""
+    return [record(row) for row in csv.reader(io.StringIO(text, newline='')) if row]
+
+
+class Graph:
+    """The edges ever added with their first place and whether they are present, mention edges, mentions, and first uses of tags."""
+
+    def __init__(self):
+        self.follows, self.mentions, self.said, self.uses = {}, set(), {}, {}
+
+    def apply(self, place, what):
+        if what[0] == 'f':
+            self.follows[what[1:]] = (self.follows.get(what[1:], (place, True))[0], True)
+        elif what[0] == 'x' and what[1:] in self.follows:
+            self.follows[what[1:]] = (self.follows[what[1:]][0], False)
+        elif what[0] == 't':
+            for kind, name in what[2]:
+                if kind == '@':
+                    self.mentions.add((what[1], name))
+                    self.said[name] = self.said.get(name, 0) + 1
+                else:
+                    self.uses.setdefault((what[1], name), place)
+
+    def users(self):
+        edges = list(self.follows) + list(self.mentions)
+        return sorted({u for u, _ in edges} | {v for _, v in edges} | {u for u, _ in self.uses})
+
+    def text(self):
+        """A line for each user, and then for each tag with how many use it. Follow halves stand in the order of first adding, all else ascends."""
+        for u in self.users():
+            halves = sorted((place, a, b, present) for (a, b), (place, present) in self.follows.items())
+            outs = [half(b, place, present) for place, a, b, present in halves if a == u]
+            ins = [half(a, place, present) for place, a, b, present in halves if b == u]
+            to = [str(b) for a, b in sorted(self.mentions) if a == u]
+            by = [str(a) for a, b in sorted(self.mentions) if b == u]
+            uses = [f'{tag}@{written(place)}' for (a, tag), place in sorted(self.uses.items()) if a == u]
+            said = [str(self.said.get(u, 0))]
+            yield ' '.join(['user', str(u), 'out', *outs, 'in', *ins, 'mentions', *to, 'mentioned', *by, 'said', *said, 'uses', *uses])
+        for tag in sorted({tag for _, tag in self.uses}):
+            yield f'tag {tag} {sum(b == tag for _, b in self.uses)}'
+
+
+def written(place):
+    return '.'.join(str(part) for part in place)
+
+
+def half(other, place, present):
+    return f'{other}@{written(place)}{"+" if present else "-"}'
