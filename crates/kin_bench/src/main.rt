@@ -1,8 +1,13 @@
-//! Runs one of the benchmarks: `chains N forward`, `chains N reverse`, `stores N celebrity` or `stores N spread`.
+//! Runs one of the benchmarks: `chains N forward`, `chains N reverse`, `stores N celebrity`, `stores N spread`,
+//! `worlds N forward`, or `worlds N open`, which does all of that but the events; `commits N forward`, `commits N often` with eight times
+//! as many epochs, `commits N cuts`, which does all of `forward` but the commits, or `commits N open`, which does all but the events.
 #![tactic(auto)]
 
 mod chains;
+mod commits;
+mod shapes;
 mod stores;
+mod worlds;
 
 use kin_ids::Memory;
 use kin_ids::decimals::read_decimal;
@@ -23,6 +28,12 @@ fn run(alloc: Global, words: &[String]) -> Result<bool, Memory> {
         ("chains", "reverse") => chains::reverse(alloc, n)?,
         ("stores", "celebrity") => stores::celebrity(alloc, n as u32)?,
         ("stores", "spread") => stores::spread(alloc, n as u32)?,
+        ("worlds", "open") => drop(worlds::open(alloc, n)?),
+        ("worlds", "forward") => worlds::forward(alloc, n)?,
+        ("commits", "open") => drop(commits::open(alloc, n)?),
+        ("commits", "cuts") => commits::cuts(alloc, n)?,
+        ("commits", "forward") => commits::forward(alloc, n)?,
+        ("commits", "often") => commits::often(alloc, n)?,
         _ => return Ok(false),
     }
     Ok(true)

@@ -1,9 +1,7 @@
-use Rattle.std.proofs.Common.{◌≡◌, ◌∙◌, ◌<◌, ◌^◌, ℕ, List, ap, subst, sym}
-use Rattle.kin_ids.specs.declared.ids.User.{User}
+use Rattle.std.proofs.Common.{◌∙◌, ◌<◌, ◌^◌, List, subst, sym}
 use Rattle.kin_ids.specs.declared.ops.Numbered.{Numbered}
 use Rattle.kin_ids.specs.Parts.{PartView, ops_applied}
 use Rattle.kin_graph.specs.State.{view_of}
-use Rattle.kin_bench.specs.Room.{HasRoom}
 use Rattle.kin_bench.proofs.stores.follow.Goals as goal
 
 pub returns : goal.returns
