@@ -34,7 +34,7 @@ node_at w i = slice_index_or w.ingests i no_node
 abbrev pub setting_of : WorldView → Setting
 setting_of w = record { feeds = w.feeds; parts = w.parts; landmarks = [] }
 
--- the events of nodes, partitions, agreement and cuts
+-- the events of nodes, partitions, agreement, cuts and commits
 abbrev pub IsBuilt : Event → Type 0
 IsBuilt (event.Stamp j n) = Unit {0}
 IsBuilt (event.Deliver p j c to) = Unit {0}
