@@ -16,47 +16,25 @@ use Rattle.kin_ids.specs.Graph.{Graph, empty_graph, item_applied, items_applied,
 use Rattle.kin_ids.specs.Order.{Entry, feed_at, entries, between, of_epoch, order, folded, snapshot}
 use Rattle.kin_ids.specs.Records.{DoNotFall}
 use Rattle.kin_ids.specs.Sizes.{IsSmall, AreWithinLimits}
-use Rattle.kin_ids.proofs.Joins.{folded-append}
 
--- mentions grow from one graph to another, by at most this many
-record Grows (n : ℕ) (u : User) (old new : Graph) : Type 0 where
-  stays : said old u ≤ said new u
-  few : said new u ≤ said old u + n
-
-grows-item : (u w : User) (at : Place) (g : Graph) (x : Item) → Grows 1 u g (item_applied w at g x)
-grows-item u w at g (item.At v) = let e = sum_by_push (λ y. cond (same_user u y) 1 0) g.mentioned v in go (same_user u v) e
+-- an item mentions a user once at most, and so many items at most so often
+few-item : (u w : User) (at : Place) (g : Graph) (x : Item) → said (item_applied w at g x) u ≤ said g u + 1
+few-item u w at g (item.At v) = let e = sum_by_push (λ y. cond (same_user u y) 1 0) g.mentioned v in go (same_user u v) e
   where
-    go : (b : Bool) → said (item_applied w at g (item.At v)) u ≡ said g u + cond b 1 0 → Grows 1 u g (item_applied w at g (item.At v))
-    go true e = record { stays = omega (arith, e); few = omega (arith, e) }
-    go false e = record { stays = omega (arith, e); few = omega (arith, e) }
-grows-item u w at g (item.Hash t) = record { stays = omega arith; few = omega arith }
+    go : (b : Bool) → said (item_applied w at g (item.At v)) u ≡ said g u + cond b 1 0 → said (item_applied w at g (item.At v)) u ≤ said g u + 1
+    go true e = omega (arith, e)
+    go false e = omega (arith, e)
+few-item u w at g (item.Hash t) = omega arith
 
-grows-items : (u w : User) (at : Place) (g : Graph) (xs : List Item) → Grows (length xs) u g (items_applied w at g xs)
-grows-items u w at g [] = record { stays = omega arith; few = omega arith }
-grows-items u w at g (x ∷ xs) =
-    let one = grows-item u w at g x in
-    let rest = grows-items u w at (item_applied w at g x) xs in
-    record { stays = omega (arith, one.stays, rest.stays); few = omega (arith, one.few, rest.few) }
-
-never_falls : (u : User) (at : Place) (g : Graph) (r : Record) → said g u ≤ said (applied at g r) u
-never_falls u at g (record_kind.Follow v w) = omega arith
-never_falls u at g (record_kind.Unfollow v w) = omega arith
-never_falls u at g (record_kind.Tweet w items) = (grows-items u w at g items).stays
-never_falls u at g record_kind.Bad = omega arith
+few-items : (u w : User) (at : Place) (g : Graph) (xs : List Item) → said (items_applied w at g xs) u ≤ said g u + length xs
+few-items u w at g [] = omega arith
+few-items u w at g (x ∷ xs) = omega (arith, few-item u w at g x, few-items u w at (item_applied w at g x) xs)
 
 few-record : (u : User) (at : Place) (g : Graph) (r : Record) → IsSmall r → said (applied at g r) u ≤ said g u + 16
 few-record u at g (record_kind.Follow v w) small = omega arith
 few-record u at g (record_kind.Unfollow v w) small = omega arith
-few-record u at g (record_kind.Tweet w items) small = let all = grows-items u w at g items in omega (arith, all.few, small)
+few-record u at g (record_kind.Tweet w items) small = omega (arith, few-items u w at g items, small)
 few-record u at g record_kind.Bad small = omega arith
-
-never_falls-folded : (u : User) (g : Graph) (xs : List Entry) → said g u ≤ said (folded g xs) u
-never_falls-folded u g [] = omega arith
-never_falls-folded u g (x ∷ xs) = omega (arith, never_falls u x.place g x.content, never_falls-folded u (applied x.place g x.content) xs)
-
--- mentions never fall as records are applied
-pub said-front : (g : Graph) (xs ys : List Entry) (u : User) → said (folded g xs) u ≤ said (folded g (xs ++ ys)) u
-said-front g xs ys u = rw (folded-append g xs ys) (never_falls-folded u (folded g xs) ys)
 
 abbrev IsSmallEntry : Entry → Type 0
 IsSmallEntry x = IsSmall x.content
@@ -143,7 +121,3 @@ module _ (feeds : List (List Record)) where
       -- no user is mentioned too often in a snapshot
       pub few-said : (u : User) → said (snapshot feeds vectors k) u < 2 ^ 64
       few-said u = omega (arith, few-folded u empty_graph (order feeds vectors k) (small-order limits.small k), few-order)
-
-    -- nor in a graph on the way to one
-    pub said-on_the_way : (k : ℕ) (xs ys : List Entry) → order feeds vectors k ≡ xs ++ ys → (u : User) → said (folded empty_graph xs) u ≤ said (snapshot feeds vectors k) u
-    said-on_the_way k xs ys e u = rw e (said-front empty_graph xs ys u)

@@ -32,7 +32,7 @@ use Rattle.kin_hub.specs.Hubs.{HubView, KeepsEpoch, parts_in, nodes_in, chain_in
 use Rattle.kin_hub.specs.Stands.{HubStands, HasStands}
 use Rattle.kin_hub.specs.Goes.{HubKeeps}
 use Rattle.kin_hub.specs.Commits.{nodes_applied, IsOfStore, MayTake, CoreForgets, Commits, HasSmallFeeds, AreSnapshot}
-use Rattle.kin_hub.proofs.Writes.{get_or-set}
+use Rattle.kin_ids.proofs.Rounds.{get_or-set}
 use Rattle.kin_hub.proofs.Holding.{node-in}
 use Rattle.kin_hub.proofs.Forgetting.{MayForget, forget-stands}
 use Rattle.kin_hub.proofs.Applying.{of-store, nodes-part}

@@ -9,7 +9,7 @@ use Rattle.kin_table.specs.Tables.{row_at, agreed_of, inc_of, cuts_of}
 use Rattle.kin_hub.specs.Cores.{CoreView, IsCore, held_at}
 use Rattle.kin_hub.specs.Lines.{IsHubChain, IsHubRow}
 use Rattle.kin_hub.specs.Stands.{CoreStands}
-use Rattle.kin_hub.proofs.Writes.{get_or-set}
+use Rattle.kin_ids.proofs.Rounds.{get_or-set}
 
 module _ (parts : ℕ) (feeds : List (List Record)) (lines : ℕ → List Stamp) (bases : ℕ → List ℕ) (vectors : ℕ → ℕ → ℕ) (old : CoreView) (s : CoreStands parts feeds lines bases vectors old) where
   -- what a chain of partition p and node i is

@@ -1,5 +1,4 @@
 pub mod Fronts
-pub mod Writes
 pub mod Begins
 pub mod Placing
 pub mod Holding

@@ -15,7 +15,7 @@ use Rattle.kin_hub.specs.Cores.{CoreView, IsCore, chain_of, ready_run, ready, wi
 use Rattle.kin_hub.specs.Lines.{IsHubStamp, IsHubLine, IsHubPiece, IsHubChain, IsHubRow, IsHubEnd}
 use Rattle.kin_hub.specs.Stands.{CoreStands}
 use Rattle.kin_hub.specs.Goes.{grown}
-use Rattle.kin_hub.proofs.Writes.{get_or-set}
+use Rattle.kin_ids.proofs.Rounds.{get_or-set}
 use Rattle.kin_hub.proofs.Begins.{has-either}
 use Rattle.kin_hub.proofs.Running.{run-upto, past-append, inc_at-append, piece-of, run-begins, run-line, run-has, rises, Reaches, reaches}
 

@@ -13,7 +13,7 @@ use Rattle.kin_table.specs.Tables.{RowView, row_at, no_report, agreed_of, inc_of
 use Rattle.kin_hub.specs.Cores.{CoreView, IsCore, held_at, chain_of, kept_inc, row_of, with_report}
 use Rattle.kin_hub.specs.Lines.{IsHubRow}
 use Rattle.kin_hub.specs.Stands.{CoreStands}
-use Rattle.kin_hub.proofs.Writes.{get_or-set}
+use Rattle.kin_ids.proofs.Rounds.{get_or-set}
 use Rattle.kin_hub.proofs.Holding.{node-in}
 
 -- where a line ends is an end of it

@@ -16,7 +16,7 @@ use Rattle.kin_hub.specs.Cores.{CoreView, IsCore, chain_of, with_seal}
 use Rattle.kin_hub.specs.Lines.{base_of, IsHubStamp, IsHubLine, IsHubPiece, IsHubChain, IsHubRow}
 use Rattle.kin_hub.specs.Stands.{CoreStands}
 use Rattle.kin_hub.specs.Goes.{based}
-use Rattle.kin_hub.proofs.Writes.{get_or-set}
+use Rattle.kin_ids.proofs.Rounds.{get_or-set}
 
 of_choice : (b : Bool) (x y : Inc) → (cond b x y).0 ≡ cond b x.0 y.0
 of_choice true x y = refl

@@ -22,7 +22,7 @@ use Rattle.kin_hub.specs.Cuts.{with_next}
 use Rattle.kin_hub.specs.Hubs.{HubView, chain_in, cuts_in, committed_in, store_in}
 use Rattle.kin_hub.specs.Opens.{first_hub, no_vectors}
 use Rattle.kin_hub.specs.Stands.{StoresStand}
-use Rattle.kin_hub.proofs.Writes.{get_or-set}
+use Rattle.kin_ids.proofs.Rounds.{get_or-set}
 
 -- where no floor moves and no fewer epochs are cut
 pub stores-go : (parts : ℕ) (feeds : List (List Record)) (vectors : ℕ → ℕ → ℕ) (old : HubView) (core : CoreView) → StoresStand parts feeds vectors old → cuts_in old ≤ cuts_of core.table →

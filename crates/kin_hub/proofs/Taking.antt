@@ -13,7 +13,7 @@ use Rattle.kin_hub.specs.Cores.{CoreView, IsCore, CoreTakes, held_at, chain_of}
 use Rattle.kin_hub.specs.Lines.{base_of}
 use Rattle.kin_hub.specs.Stands.{CoreStands}
 use Rattle.kin_held.proofs.Kept.{takes-all}
-use Rattle.kin_hub.proofs.Writes.{get_or-set}
+use Rattle.kin_ids.proofs.Rounds.{get_or-set}
 use Rattle.kin_hub.proofs.Placing.{takes-chain, takes-row}
 use Rattle.kin_hub.proofs.Holding.{ChainFor, RowFor, node-in, held-stands}
 
