@@ -1,45 +1,105 @@
 #!/usr/bin/env python3
-"""Times the benchmark program on this machine: run.py [PROGRAM]. It is no test, and nothing is compared.
+"""Times the program and parts of it on this machine. It is no test, and nothing is compared.
 
-PROGRAM is crates/kin_bench/out/kin_bench, as `rt run -- chains 1 forward` in crates/kin_bench builds it. A line of a difference is what a
-job takes beyond another one: `worlds N steps` is `forward` beyond `open`, which reads the feeds and opens the world, so N events of a
-world; `commits N stamps` is `cuts` beyond `open`, the same records stamped, delivered, agreed and cut; and `commits N commits` is
-`forward` beyond `cuts`, the commits.
+    bench/run.py [PROGRAM]            parts, by the program of crates/kin_bench, as `rt run -- chains 1 forward` builds it there
+    bench/run.py --command [PROGRAM]  whole commands, by the launcher at the top of the repository where PROGRAM is left out
+
+A line has a job, its seconds, microseconds for each item, and its peak memory, which is no less than Python's own, about
+15 MiB. A line of a difference is what a job takes beyond another one: `worlds N steps` is `forward` beyond `open`, which
+reads the feeds and opens the world, so N events of a world; `commits N stamps` is `cuts` beyond `open`, the same records
+stamped, delivered, agreed and cut; and `commits N commits` is `forward` beyond `cuts`, the commits.
 """
-import os, resource, subprocess, sys, time
+import argparse
+import os
+import subprocess
+import sys
+import tempfile
+import time
+from typing import List, NamedTuple
 
-here = os.path.dirname(os.path.abspath(__file__))
-program = os.path.abspath(sys.argv[1]) if len(sys.argv) > 1 else os.path.join(here, '..', 'crates', 'kin_bench', 'out', 'kin_bench')
-jobs = [('chains', n, how) for n in (100000, 1000000) for how in ('forward', 'reverse')]
-jobs += [('stores', n, how) for n in (20000, 200000) for how in ('celebrity', 'spread')]
-jobs += [('worlds', n, how) for n in (10000, 1000000) for how in ('open', 'forward')]
-jobs += [('commits', n, how) for n in (20000, 200000) for how in ('open', 'cuts', 'forward')]
-differences = {('worlds', 'forward'): ('steps', 'open'), ('commits', 'cuts'): ('stamps', 'open'), ('commits', 'forward'): ('commits', 'cuts')}
+TOP = os.path.dirname(os.path.dirname(os.path.abspath(__file__)))
+sys.path.insert(0, os.path.join(TOP, 'tests'))
+
+from demo import write  # noqa: E402
+from texts import text_of  # noqa: E402
+
+PARTS = os.path.join(TOP, 'crates', 'kin_bench', 'out', 'kin_bench')
+JOBS = [
+    *(('chains', count, how) for count in (100000, 1000000) for how in ('forward', 'reverse')),
+    *(('stores', count, how) for count in (20000, 200000) for how in ('celebrity', 'spread')),
+    *(('worlds', count, how) for count in (10000, 1000000) for how in ('open', 'forward')),
+    *(('commits', count, how) for count in (20000, 200000) for how in ('open', 'cuts', 'forward')),
+]
+DIFFERENCES = {('worlds', 'forward'): ('steps', 'open'), ('commits', 'cuts'): ('stamps', 'open'),
+               ('commits', 'forward'): ('commits', 'cuts')}
+SHORT = 20000
+LINES = 1048576
+REPLAY = ['replay', '--script', 'schedule', '--feeds']
 
 
-def seconds(what, n, how):
-    """How long a job takes: the least of five runs where it is short, so that the start of a process matters little."""
-    least = None
-    for _ in range(5 if n <= 20000 else 1):
-        start = time.monotonic()
-        done = subprocess.run([program, what, str(n), how])
-        took = time.monotonic() - start
-        if done.returncode != 0:
-            sys.exit(f'{what} {n} {how}: exit {done.returncode}')
-        least = took if least is None else min(least, took)
-    return least
+class Cost(NamedTuple):
+    """What a job takes."""
+    seconds: float
+    mebibytes: float
 
 
-def show(what, n, how, took):
-    print(f'{what:8} {how:10} {n:8} {took:8.3f} {took / n * 1e6:8.2f}')
+def cost(words: List[str], folder=None) -> Cost:
+    """What one run takes. What it prints goes nowhere."""
+    start = time.monotonic()
+    with subprocess.Popen(words, cwd=folder, stdin=subprocess.DEVNULL, stdout=subprocess.DEVNULL) as child:
+        _, status, used = os.wait4(child.pid, 0)
+        child.returncode = os.WEXITSTATUS(status) if os.WIFEXITED(status) else -1
+    if child.returncode != 0:
+        sys.exit(f'{" ".join(words)}: exit {child.returncode}')
+    return Cost(time.monotonic() - start, used.ru_maxrss / 1024)
 
 
-print(f'{"job":8} {"how":10} {"items":>8} {"seconds":>8} {"us/item":>8}')
-times = {}
-for what, n, how in jobs:
-    times[what, n, how] = seconds(what, n, how)
-    show(what, n, how, times[what, n, how])
-    if (what, how) in differences:
-        name, less = differences[what, how]
-        show(what, n, name, times[what, n, how] - times[what, n, less])
-print(f'peak memory of the largest job: {resource.getrusage(resource.RUSAGE_CHILDREN).ru_maxrss // 1024} MiB')
+def least_cost(words, runs):
+    """The cost of the quickest run: where runs are short, the start of a process matters little in it."""
+    return min(cost(words) for _ in range(runs))
+
+
+def show(what, how, count, took):
+    """A line of the table."""
+    memory = f'{took.mebibytes:7.0f} MiB' if took.mebibytes else ''
+    print(f'{what:8} {how:10} {count:8} {took.seconds:8.3f} {took.seconds / count * 1e6:8.2f} {memory}', flush=True)
+
+
+def parts(program):
+    """Times the parts."""
+    costs = {}
+    for what, count, how in JOBS:
+        costs[what, count, how] = least_cost([program, what, str(count), how], 5 if count <= SHORT else 1)
+        show(what, how, count, costs[what, count, how])
+        if (what, how) in DIFFERENCES:
+            name, less = DIFFERENCES[what, how]
+            show(what, name, count, Cost(costs[what, count, how].seconds - costs[what, count, less].seconds, 0))
+
+
+def commands(program):
+    """Times whole commands: generated jobs, the files of such a job, and a schedule of the most lines."""
+    for count in (20000, 50000, 200000):
+        show('demo', 'seed 7', count, cost([program, 'demo', '--seed', '7', '--records', str(count)]))
+    with tempfile.TemporaryDirectory() as folder:
+        write(folder, 7, 200000)
+        words = [program, *REPLAY, 'feed0,feed1,feed2', '--parts', '4', '--landmarks', '0']
+        show('replay', 'records', 200000, cost(words, folder))
+        with open(os.path.join(folder, 'schedule'), 'w', encoding='ascii') as file:
+            file.write(text_of(['report 0', 'cut'] * (LINES // 2)))
+        show('replay', 'lines', LINES, cost([program, *REPLAY, 'feed0'], folder))
+
+
+def main():
+    parser = argparse.ArgumentParser(description='Times the program and parts of it on this machine.')
+    parser.add_argument('program', nargs='?')
+    parser.add_argument('--command', action='store_true')
+    asked = parser.parse_args()
+    print(f'{"job":8} {"how":10} {"items":>8} {"seconds":>8} {"us/item":>8} {"peak":>11}')
+    if asked.command:
+        commands(os.path.abspath(asked.program or os.path.join(TOP, 'kineo')))
+    else:
+        parts(os.path.abspath(asked.program or PARTS))
+
+
+if __name__ == '__main__':
+    main()

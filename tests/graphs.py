@@ -1,10 +1,14 @@
-"""Records and the one graph that they make, from the definitions of docs/MODEL.md."""
+"""Records of feeds and the one graph that they make, from the definitions of docs/MODEL.md."""
 import csv
 import io
 import re
 
-DECIMAL = re.compile(r'0|[1-9][0-9]*', re.ASCII)
+DECIMAL = re.compile(r'0|[1-9][0-9]{0,19}', re.ASCII)
 TAG = re.compile(r'[a-z0-9_]{1,24}', re.ASCII)
+BYTE_ORDER_MARK = '\xef\xbb\xbf'
+
+# A field of any length is read.
+csv.field_size_limit(2 ** 31 - 1)
 
 
 def number(text, values):
@@ -13,6 +17,7 @@ def number(text, values):
 
 
 def user(text):
+    """The user that is written so, or None."""
     return number(text, range(2 ** 32))
 
 
@@ -37,17 +42,25 @@ def record(row):
 
 
 def records(text):
-    """The records of a feed: a row of CSV each, and none for an empty line."""
+    """The records of a feed: a row of CSV each, and none for an empty line.
+
+    The text has a character for each byte.
+    """
+    if text.startswith(BYTE_ORDER_MARK):
+        text = text[len(BYTE_ORDER_MARK):]
+    # Older readers of CSV take no NUL. No good record has one, nor what stands in its place.
+    text = text.replace('\0', '\1')
     return [record(row) for row in csv.reader(io.StringIO(text, newline='')) if row]
 
 
 class Graph:
-    """The edges ever added with their first place and whether they are present, mention edges, mentions, and first uses of tags."""
+    """The follow edges ever added, each with its first place and whether it is present; mentions; first uses."""
 
     def __init__(self):
         self.follows, self.mentions, self.said, self.uses = {}, set(), {}, {}
 
     def apply(self, place, what):
+        """What a record at this place does."""
         if what[0] == 'f':
             self.follows[what[1:]] = (self.follows.get(what[1:], (place, True))[0], True)
         elif what[0] == 'x' and what[1:] in self.follows:
@@ -60,28 +73,39 @@ class Graph:
                 else:
                     self.uses.setdefault((what[1], name), place)
 
+    def present(self):
+        """The follow edges that are present."""
+        return [edge for edge, (_, present) in self.follows.items() if present]
+
     def users(self):
-        edges = list(self.follows) + list(self.mentions)
-        return sorted({u for u, _ in edges} | {v for _, v in edges} | {u for u, _ in self.uses})
+        """The vertices: who stands in a follow edge ever added, in a mention edge or in a use. They ascend."""
+        ends = {end for edge in [*self.follows, *self.mentions] for end in edge}
+        return sorted(ends | {u for u, _ in self.uses})
 
     def text(self):
-        """A line for each user, and then for each tag with how many use it. Follow halves stand in the order of first adding, all else ascends."""
+        """A line for each user, and then for each tag with how many use it.
+
+        Follow halves stand in the order of first adding, all else ascends.
+        """
+        halves = sorted((place, a, b, present) for (a, b), (place, present) in self.follows.items())
         for u in self.users():
-            halves = sorted((place, a, b, present) for (a, b), (place, present) in self.follows.items())
             outs = [half(b, place, present) for place, a, b, present in halves if a == u]
             ins = [half(a, place, present) for place, a, b, present in halves if b == u]
             to = [str(b) for a, b in sorted(self.mentions) if a == u]
             by = [str(a) for a, b in sorted(self.mentions) if b == u]
             uses = [f'{tag}@{written(place)}' for (a, tag), place in sorted(self.uses.items()) if a == u]
-            said = [str(self.said.get(u, 0))]
-            yield ' '.join(['user', str(u), 'out', *outs, 'in', *ins, 'mentions', *to, 'mentioned', *by, 'said', *said, 'uses', *uses])
+            said = str(self.said.get(u, 0))
+            yield ' '.join(['user', str(u), 'out', *outs, 'in', *ins, 'mentions', *to, 'mentioned', *by, 'said', said,
+                            'uses', *uses])
         for tag in sorted({tag for _, tag in self.uses}):
             yield f'tag {tag} {sum(b == tag for _, b in self.uses)}'
 
 
 def written(place):
+    """A place as text."""
     return '.'.join(str(part) for part in place)
 
 
 def half(other, place, present):
+    """A follow half as text."""
     return f'{other}@{written(place)}{"+" if present else "-"}'

@@ -1,113 +1,179 @@
 #!/usr/bin/env python3
-"""Runs the program on its cases, and compares standard output, standard error and exit status to the byte.
+"""Runs all that needs the program, and compares standard output, standard error and exit status to the byte.
 
-    tests/run.py [PROGRAM]
+    tests/run.py [--stage STAGE] [PROGRAM]
+    tests/run.py --plain                    all that needs no program: the plain evaluation on what is worked by hand
 
-PROGRAM is the launcher `kineo` at the top of the repository, which builds the program, where it is left out. Each case
-of cases.json runs in an empty folder with its files. After them come what data can't say: feeds at their limits, a
-standard output that is full or closed, and the example that ships. The last line is `N passed, M failed`.
+PROGRAM is the launcher `kineo` at the top of the repository, which builds the program, where it is left out.
+STAGE says how far the program is: `first`, whose `replay` takes one form of words and schedule; `replay`, which
+takes every schedule; or `demo`, which has `demo` too. The last line is `N passed, M failed`.
 """
-import json
+import argparse
 import os
 import subprocess
-import sys
-import tempfile
+from itertools import chain
 
-TESTS = os.path.dirname(os.path.abspath(__file__))
-TOP = os.path.dirname(TESTS)
-EXAMPLE = os.path.join(TOP, 'examples', 'first')
+import cookbook
+import demo
+import examples
+import manual
+import model
+import replay
+import steps
+from commands import CANNOT_READ, USAGE, Answer, limit
+from commands import replay as replayed
+from model import files_of, stored
+from programs import TOP, Check, answer, answer_over, conclude, program_of
+from texts import text_of
+
+STAGES = ('first', 'replay', 'demo')
+# How far the program is.
+STAGE = 'first'
+
+STORED_SEEDS = range(1, 301)
+FIRST = os.path.join(TOP, 'examples', 'first')
 WORDS = ['replay', '--rules', 'in', '--script', 's', '--feeds', 'a']
-ONE = b'stamp 0 1\ndeliver 0 0 0 1\nreport 0\nraise 0\ncut\n'
-NOT_BUILT = (b'', 11, b'kineo: not built\n')
-CANNOT_WRITE = (None, 5, b'kineo: cannot write\n')
+ONE = 'stamp 0 1\ndeliver 0 0 0 1\nreport 0\nraise 0\ncut\n'
+LINES = ['stamp 0 1', 'deliver 0 0 0 1', 'report 0', 'raise 0', 'cut', 'cut 1', 'commit 0', 'begin', 'turn 1', 'mine',
+         'crash 0', 'restart 0']
+NOT_BUILT = Answer('', 11, 'kineo: not built\n')
+CANNOT_WRITE = Answer(None, 5, 'kineo: cannot write\n')
+ONE_BAD = Answer('epoch 1 0@1 records 1 bad 1\n', 0, '')
+MOST_BYTES, MOST_RECORDS, MOST_LINES = 33554432, 2097152, 1048576
 
 
-def answer(program, words, folder, **streams):
-    streams.setdefault('stdout', subprocess.PIPE)
-    done = subprocess.run([program] + words, cwd=folder, stdin=subprocess.DEVNULL, stderr=subprocess.PIPE, timeout=120,
-                          **streams)
-    return done.stdout, done.returncode, done.stderr
+def from_data(program, name):
+    """Each case of a file of data."""
+    for case in stored(name):
+        files = {file: text.encode().decode('latin-1') for file, text in case['files'].items()}
+        want = Answer(case['stdout'], case['status'], case['stderr'])
+        yield Check(case['name'], want, answer_over(program, case['words'], files))
 
 
-def in_folder(files, run):
-    with tempfile.TemporaryDirectory() as folder:
-        for name, content in files.items():
-            with open(os.path.join(folder, name), 'wb') as file:
-                file.write(content)
-        return run(folder)
+def worked_runs(program):
+    """Each worked run prints its report."""
+    for run in stored('reports.json'):
+        words, files = files_of(run)
+        want = Answer(text_of(run['report']), 0, '')
+        yield Check(run['name'], want, answer_over(program, ['replay', *words], files))
 
 
-def from_data(program):
-    """Each case of cases.json: its name, what is wanted, and what came."""
-    with open(os.path.join(TESTS, 'cases.json'), encoding='utf-8') as file:
-        cases = json.load(file)
-    for case in cases:
-        files = {name: text.encode() for name, text in case['files'].items()}
-        want = (case['stdout'].encode(), case['status'], case['stderr'].encode())
-        yield case['name'], want, in_folder(files, lambda folder: answer(program, case['words'], folder))
+def changed_lines(program):
+    """Each line of a schedule with one character exchanged."""
+    for line in LINES:
+        for at in range(len(line)):
+            for new in '0 a\t':
+                files = {'a': 'f,1,2\n', 's': f'cut\n{line[:at]}{new}{line[at + 1:]}\n'}
+                want = replayed(['--trace', *WORDS[1:]], files)
+                yield Check(f'the schedule {files["s"]!r}', want, answer_over(program, [*WORDS, '--trace'], files))
 
 
-def at_the_limits(program):
-    """Feeds of the most bytes and records, and of one more."""
-    feeds = [
-        ('33554432 bytes', b'f' * 33554432, (b'epoch 1 0@1 records 1 bad 1\n', 0, b'')),
-        ('33554433 bytes', b'f' * 33554433, NOT_BUILT),
-        ('2097152 records', b'f\n' * 2097152, (b'epoch 1 0@1 records 1 bad 1\n', 0, b'')),
-        ('2097153 records', b'f\n' * 2097153, NOT_BUILT),
+def at_the_limits(program, is_whole):
+    """Feeds and schedules of the most bytes, records and lines, and of one more."""
+    cases = [
+        ('a feed of the most bytes', WORDS, {'a': 'f' * MOST_BYTES, 's': ONE}, ONE_BAD),
+        ('a feed of one byte more', WORDS, {'a': 'f' * (MOST_BYTES + 1), 's': ONE}, limit('feed-bytes')),
+        ('a feed of the most records', WORDS, {'a': 'f\n' * MOST_RECORDS, 's': ONE}, ONE_BAD),
+        ('a feed of one record more', WORDS, {'a': 'f\n' * (MOST_RECORDS + 1), 's': ONE}, limit('records')),
+        ('a schedule of one byte more', WORDS, {'a': '', 's': long_schedule(MOST_BYTES + 1)}, limit('script-bytes')),
     ]
-    for name, feed, want in feeds:
-        yield 'a feed of ' + name, want, in_folder({'a': feed, 's': ONE}, lambda folder: answer(program, WORDS, folder))
-    schedule = ONE + b'\n' * (33554433 - len(ONE))
-    yield 'a schedule of 33554433 bytes', NOT_BUILT, in_folder({'a': b'f,1,2\n', 's': schedule}, lambda folder: answer(program, WORDS, folder))
+    if is_whole:
+        cases += more_at_the_limits()
+    for name, words, files, want in cases:
+        if want.status == 6 and not is_whole:
+            want = NOT_BUILT
+        yield Check(name, want, answer_over(program, words, files))
+
+
+def long_schedule(size):
+    """The schedule with a remark that makes it so many bytes long."""
+    return ONE + '#' * (size - len(ONE))
+
+
+def more_at_the_limits():
+    """What only the program that takes every schedule can tell apart."""
+    two = [*WORDS[:-1], 'a,b']
+    return [
+        ('feeds of one byte more together', two, {'a': 'f' * MOST_BYTES, 'b': 'f'}, limit('feed-bytes')),
+        ('a feed of one byte more, and no second feed', two, {'a': 'f' * (MOST_BYTES + 1)}, limit('feed-bytes')),
+        ('a feed of the most bytes, and no second feed', two, {'a': 'f' * MOST_BYTES}, CANNOT_READ),
+        ('feeds of one record more together', two, {'a': 'f\n' * MOST_RECORDS, 'b': 'f\n'}, limit('records')),
+        ('a feed of one record more, and no schedule', WORDS, {'a': 'f\n' * (MOST_RECORDS + 1)}, limit('records')),
+        ('a feed of the most records, and no schedule', WORDS, {'a': 'f\n' * MOST_RECORDS}, CANNOT_READ),
+        ('a feed of the most records, and no event', WORDS, {'a': 'f\n' * MOST_RECORDS, 's': ''}, Answer('', 0, '')),
+        ('a schedule of the most bytes', WORDS, {'a': 'f\n', 's': long_schedule(MOST_BYTES)}, ONE_BAD),
+        ('a schedule of the most lines', WORDS, {'a': 'f\n', 's': ONE + '\n' * (MOST_LINES - 5)}, ONE_BAD),
+        ('a schedule of one line more', WORDS, {'a': 'f\n', 's': 'x\n' + '\n' * MOST_LINES}, limit('script-lines')),
+    ]
 
 
 def where_nothing_can_be_written(program):
-    files = {'a': b'f,1,2\n', 's': ONE}
+    """A standard output that is full, unread or closed."""
+    files = {'a': 'f,1,2\n', 's': ONE}
 
-    def full(folder):
+    def full(files):
         with open('/dev/full', 'wb') as device:
-            return answer(program, WORDS, folder, stdout=device)
+            return answer_over(program, WORDS, files, stdout=device)
 
-    def unread(folder):
+    def unread():
         read, write = os.pipe()
         os.close(read)
         try:
-            return answer(program, WORDS, folder, stdout=write)
+            return answer_over(program, WORDS, files, stdout=write)
         finally:
             os.close(write)
 
-    def closed(folder):
-        return answer(program, WORDS, folder, stdout=None, preexec_fn=lambda: os.close(1))
+    def closed():
+        return answer_over(program, WORDS, files, stdout=None, preexec_fn=lambda: os.close(1))
 
-    yield 'a full standard output', CANNOT_WRITE, in_folder(files, full)
-    yield 'a standard output that nobody reads', CANNOT_WRITE, in_folder(files, unread)
-    yield 'a closed standard output', CANNOT_WRITE, in_folder(files, closed)
-    yield 'a full standard output and no feed', (None, 4, b'kineo: cannot read\n'), in_folder({'s': ONE}, full)
+    yield Check('a full standard output', CANNOT_WRITE, full(files))
+    yield Check('a standard output that nobody reads', CANNOT_WRITE, unread())
+    yield Check('a closed standard output', CANNOT_WRITE, closed())
+    yield Check('a full standard output and no feed', CANNOT_READ._replace(stdout=None), full({'s': ONE}))
 
 
-def others(program):
-    yield 'a word that is no text', NOT_BUILT, answer(program, WORDS + [b'\xff'], TESTS)
-    yield 'a folder for a feed', (b'', 4, b'kineo: cannot read\n'), in_folder({'s': ONE}, lambda folder: answer(program, WORDS[:-1] + ['.'], folder))
-    yield 'the first example', (b'epoch 1 0@2 records 2 bad 0\nin 2 2\n', 0, b''), answer(program, WORDS, EXAMPLE)
+def others(program, is_whole):
+    """What a table of texts can't say."""
+    yield Check('a word that is no text', USAGE if is_whole else NOT_BUILT, answer(program, [*WORDS, b'\xff']))
+    yield Check('a folder for a feed', CANNOT_READ, answer_over(program, [*WORDS[:-1], '.'], {'s': ONE}))
+    want = Answer('epoch 1 0@2 records 2 bad 0\nin 2 2\n', 0, '')
+    yield Check('the first example', want, answer(program, WORDS, FIRST))
+
+
+def checks(program, stage):
+    """All checks."""
+    is_whole = stage != 'first'
+    yield from at_the_limits(program, is_whole)
+    yield from where_nothing_can_be_written(program)
+    yield from others(program, is_whole)
+    if not is_whole:
+        yield from from_data(program, 'cases.json')
+        return
+    yield from from_data(program, 'replay_cases.json')
+    yield from worked_runs(program)
+    yield from changed_lines(program)
+    yield from examples.checks(program)
+    yield from cookbook.checks(program)
+    yield from replay.checks(program, replay.odd_cases())
+    yield from replay.checks(program, map(replay.random_case, STORED_SEEDS))
+    yield from manual.checks(program, ('replay', 'demo') if stage == 'demo' else ('replay',))
+    if stage == 'demo':
+        yield from demo.checks(program)
 
 
 def main():
-    program = os.path.abspath(sys.argv[1]) if len(sys.argv) > 1 else os.path.join(TOP, 'kineo')
+    parser = argparse.ArgumentParser(description='Runs all that needs the program.')
+    parser.add_argument('program', nargs='?')
+    parser.add_argument('--stage', choices=STAGES, default=STAGE)
+    parser.add_argument('--plain', action='store_true')
+    asked = parser.parse_args()
+    if asked.plain:
+        conclude(chain(model.checks(), steps.stored_checks(), cookbook.plain_checks(), examples.plain_checks()))
+    program = program_of(asked.program)
     # The first call builds the program where that is needed; what it says of that is no part of a case.
-    subprocess.run([program] + WORDS, cwd=EXAMPLE, stdin=subprocess.DEVNULL, stdout=subprocess.DEVNULL, check=False)
-    passed = failed = 0
-    for cases in (from_data, at_the_limits, where_nothing_can_be_written, others):
-        for name, want, came in cases(program):
-            if want == came:
-                passed += 1
-                continue
-            failed += 1
-            print(name)
-            for part, wanted, got in zip(('stdout', 'status', 'stderr'), want, came):
-                if wanted != got:
-                    print(f'  {part} wanted {wanted!r:.400}\n  {part} came   {got!r:.400}')
-    print(f'{passed} passed, {failed} failed')
-    sys.exit(1 if failed or not passed else 0)
+    subprocess.run([program, *WORDS], cwd=FIRST, stdin=subprocess.DEVNULL, stdout=subprocess.DEVNULL, check=False)
+    conclude(checks(program, asked.stage))
 
 
-main()
+if __name__ == '__main__':
+    main()

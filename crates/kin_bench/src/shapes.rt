@@ -2,7 +2,7 @@
 
 ghost use Rattle.std.specs.Prelude.{◌≡◌, ◌≤◌, ◌*◌, IfOk, OnOk, length, sum_by, List};
 ghost use Rattle.kin_ids.specs.declared.ops.Record.{Record};
-ghost use Rattle.kin_world.specs.Worlds.{HasRoom, IsBuilt};
+ghost use Rattle.kin_world.specs.Worlds.{HasRoom};
 ghost use Rattle.kin_bench.specs.Shape.{HasShape, FitsShape};
 
 use kin_feed::{Feed, FeedFault, read_feed};
@@ -40,14 +40,13 @@ pub fn open(alloc: Global, texts: &[String; 3]) -> Result<World, Memory>
     ensures { IfOk result HasShape }
 {
     let feeds = read_all(alloc, texts)?;
-    World::open(alloc, feeds, 4)
+    World::open(alloc, feeds, 4, &[])
 }
 
 /// One event.
 pub fn step(world: &mut World, event: Event) -> Result<Outcome, Memory>
     requires shape { HasShape world.old }
     requires fits { FitsShape event }
-    requires built { IsBuilt event }
     requires room { HasRoom world.old event }
     ensures { OnOk result (HasShape world.new) }
 {

@@ -2,7 +2,7 @@
 //! report and the positions are raised.
 
 ghost use Rattle.std.specs.Prelude.{◌≡◌, ◌<◌, ◌≤◌, ◌*◌, IfOk};
-ghost use Rattle.kin_world.specs.Worlds.{WorldView, HasRoom, IsBuilt};
+ghost use Rattle.kin_world.specs.Worlds.{WorldView, HasRoom};
 ghost use Rattle.kin_bench.specs.Shape.{HasShape, FitsShape};
 
 use crate::shapes;
@@ -51,7 +51,6 @@ pub fn open(alloc: Global, n: u64) -> Result<World, Memory>
 fn event_at(n: u64) -> Event
     requires { n ≤ 4000000000 }
     ensures fits { FitsShape result }
-    ensures built { IsBuilt result }
     ensures room { (world : WorldView) → HasRoom world result }
 {
     let place = n % PERIOD;

@@ -3,7 +3,7 @@ use Rattle.std.proofs.Common.{◌≡◌, ℕ, zero, suc, ◌+◌, ◌-◌, ◌*�
 use Rattle.std.specs.Prelude.{All}
 use Rattle.std.specs.List.{sum_by, AllByRecursion}
 use Rattle.std.proofs.lemmas.List.{length-append, length-take, take_all}
-use Rattle.std.proofs.lemmas.List.Elements.{recursion_from_All, All-take, All-drop}
+use Rattle.std.proofs.lemmas.List.Elements.{recursion_from_All, All-from_recursion, All-take, All-drop}
 use Rattle.std.proofs.lemmas.List.Sums.{sum_by_push, sum_by_more}
 use Rattle.kin_ids.specs.declared.ids.User.{User}
 use Rattle.kin_ids.specs.declared.stamps.Place.{Place}
@@ -12,10 +12,12 @@ use Rattle.kin_ids.specs.declared.ops.Record.{Record}
 use Rattle.kin_ids.specs.declared.ops.Item.TheVariants as item
 use Rattle.kin_ids.specs.declared.ops.Record.TheVariants as record_kind
 use Rattle.kin_ids.specs.Users.{same_user}
-use Rattle.kin_ids.specs.Graph.{Graph, empty_graph, item_applied, items_applied, applied, said}
+use Rattle.kin_ids.specs.Graph.{Graph, empty_graph, item_applied, items_applied, applied, said, vertices}
 use Rattle.kin_ids.specs.Order.{Entry, feed_at, entries, between, of_epoch, order, folded, snapshot}
 use Rattle.kin_ids.specs.Records.{DoNotFall}
 use Rattle.kin_ids.specs.Sizes.{IsSmall, AreWithinLimits}
+use Rattle.kin_ids.proofs.Joins.{length-entries}
+use Rattle.kin_ids.proofs.Vertices.{few-vertices-law}
 
 -- an item mentions a user once at most, and so many items at most so often
 few-item : (u w : User) (at : Place) (g : Graph) (x : Item) → said (item_applied w at g x) u ≤ said g u + 1
@@ -51,10 +53,6 @@ small-append (x ∷ xs) ys a b = (a.0, small-append xs ys a.1 b)
 small-entries : (e i n : ℕ) (rs : List Record) → AllByRecursion IsSmall rs → AllByRecursion IsSmallEntry (entries e i n rs)
 small-entries e i n [] a = tt
 small-entries e i n (r ∷ rs) a = (a.0, small-entries e i (n + 1) rs a.1)
-
-length-entries : (e i n : ℕ) (rs : List Record) → length (entries e i n rs) ≡ length rs
-length-entries e i n [] = refl
-length-entries e i n (r ∷ rs) = ap suc (length-entries e i (n + 1) rs)
 
 -- the sum of the first n numbers of a function
 abbrev total : (ℕ → ℕ) → ℕ → ℕ
@@ -121,3 +119,7 @@ module _ (feeds : List (List Record)) where
       -- no user is mentioned too often in a snapshot
       pub few-said : (u : User) → said (snapshot feeds vectors k) u < 2 ^ 64
       few-said u = omega (arith, few-folded u empty_graph (order feeds vectors k) (small-order limits.small k), few-order)
+
+      -- and it has few vertices
+      pub few-vertices : length (vertices (snapshot feeds vectors k)) ≤ 17 * 2097152
+      few-vertices = omega (arith, few-vertices-law (order feeds vectors k) (All-from_recursion IsSmallEntry (order feeds vectors k) (small-order limits.small k)), few-order)

@@ -1,31 +1,21 @@
--- Views of whole graphs.
-use Rattle.std.specs.Prelude.{ℕ, ◌≡◌, ◌<◌, Bool, List, Option, IsPermutation, length}
+-- The parts of a graph together, and the two halves of its edges.
+use Rattle.std.specs.Prelude.{ℕ, ◌≡◌, ◌<◌, Bool, List, Option, length}
 use Rattle.std.specs.List.{find}
 use Rattle.std.specs.Option.{option_map}
 use Rattle.kin_ids.specs.declared.ids.User.{User}
 use Rattle.kin_ids.specs.declared.stamps.Place.{Place}
 use Rattle.kin_ids.specs.declared.ops.Half.{Half}
 use Rattle.kin_ids.specs.Users.{same_user}
-use Rattle.kin_ids.specs.Graph.{Graph, outs, ins, mentions_of, mentioners_of, said, uses_of, tag_users}
+use Rattle.kin_ids.specs.Graph.{Graph}
 use Rattle.kin_ids.specs.Parts.{PartView, IsPart}
+use Rattle.kin_ids.specs.Wholes.{IsViewOf}
 use Rattle.kin_graph.specs.State.{PartState}
 use Rattle.kin_blocks.specs.Snaps.{IsSnap, view_at, joined}
-
--- The view hands out a whole graph: of each user the follow halves in the order of first adding, and the mentions, the mentioners and
--- the uses, each once in any order; of each tag its users; and how often each user was mentioned.
-pub record IsWhole (g : Graph) (v : PartView) : Type 0 where
-  pub out : (u : User) → v.out u ≡ outs g u
-  pub inn : (u : User) → v.inn u ≡ ins g u
-  pub mentions : (u : User) → IsPermutation (v.mentions u) (mentions_of g u)
-  pub mentioners : (u : User) → IsPermutation (v.mentioners u) (mentioners_of g u)
-  pub said : (u : User) → v.said u ≡ said g u
-  pub uses : (u : User) → IsPermutation (v.uses u) (uses_of g u)
-  pub tag_users : (t : List ℕ) → IsPermutation (v.tag_users t) (tag_users g t)
 
 -- the parts of a graph on all partitions are the whole graph together
 abbrev pub JoinLaw : Type 0
 JoinLaw = (stores : List PartState) (g : Graph) → IsSnap stores →
-    ((p : ℕ) → p < length stores → IsPart (length stores) p g (view_at stores p)) → IsWhole g (joined stores)
+    ((p : ℕ) → p < length stores → IsPart (length stores) p g (view_at stores p)) → IsViewOf g (joined stores)
 
 -- what a half tells of its edge: whether it is present, and where it was first added
 pub record Told : Type 0 where
@@ -44,4 +34,4 @@ told_in v u w = option_map told (find (λ h. same_user u h.other) (v.inn w))
 
 -- no edge has one half only, and the two halves of an edge tell the same
 abbrev pub HalvesLaw : Type 0
-HalvesLaw = (g : Graph) (v : PartView) → IsWhole g v → (u w : User) → told_out v u w ≡ told_in v u w
+HalvesLaw = (g : Graph) (v : PartView) → IsViewOf g v → (u w : User) → told_out v u w ≡ told_in v u w

@@ -7,6 +7,7 @@ use Rattle.kin_ids.specs.declared.ops.Item.{Item}
 use Rattle.kin_ids.specs.declared.ops.Record.{Record}
 use Rattle.kin_ids.specs.declared.ops.Item.TheVariants as item
 use Rattle.kin_ids.specs.declared.ops.Record.TheVariants as record_kind
+use Rattle.kin_ids.specs.Sizes.{most_items}
 use Rattle.kin_ids.specs.Texts.{user_of, tag_of}
 
 -- the rows that csv gives of the bytes: no header, any number of fields, no trimming, and no byte order mark at the start
@@ -48,7 +49,7 @@ edge_of make None = record_kind.Bad
 
 -- a tweet has 1 to 16 items
 abbrev pub tweet_by : Option User → Option (List Item) → Record
-tweet_by (Some u) (Some items) = if nat_le 1 (length items) && nat_le (length items) 16 then record_kind.Tweet u items else record_kind.Bad
+tweet_by (Some u) (Some items) = if nat_le 1 (length items) && nat_le (length items) most_items then record_kind.Tweet u items else record_kind.Bad
 tweet_by _ _ = record_kind.Bad
 
 -- the tweet of these fields: its user and then its items

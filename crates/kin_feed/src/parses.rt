@@ -7,11 +7,8 @@ ghost use Rattle.kin_ids.specs.declared.ops.Record.TheVariants as record_kind;
 ghost use Rattle.kin_ids.specs.Texts.{user_of};
 
 use csv::ByteRecord;
-use kin_ids::{Item, Items, Memory, Record, Tag, User};
+use kin_ids::{Item, Items, MOST_ITEMS, Memory, Record, Tag, User};
 use std::alloc::Global;
-
-// The most items of a tweet.
-const ITEMS: usize = 16;
 
 /// The record of a row. Its cost is the length of the row.
 pub fn read_row(alloc: Global, row: &ByteRecord) -> Result<Record, Memory>
@@ -81,7 +78,7 @@ fn read_tweet(alloc: Global, row: &ByteRecord) -> Result<Record, Memory>
     let Some(u) = User::read(user) else {
         return Ok(Record::Bad);
     };
-    if row.len() < 3 || 2 + ITEMS < row.len() {
+    if row.len() < 3 || 2 + MOST_ITEMS < row.len() {
         return Ok(Record::Bad);
     }
     match read_items(alloc, row)? {

@@ -7,3 +7,5 @@ pub mod Batches
 pub mod Parted
 pub mod Same
 pub mod Fitting
+pub mod Members
+pub mod Wholes

@@ -15,7 +15,7 @@ use Rattle.std.specs.BTreeMap.{is_at}
 use Rattle.std.specs.declared.cmp.Ordering.{Ordering}
 use Rattle.std.specs.declared.cmp.Ordering.TheVariants.{Equal}
 use Rattle.kin_graph.specs.declared.changes.Change.TheVariants as change
-use Rattle.kin_graph.specs.Lists.{few, place_of, stands, with_new, change_of_put, taken_back, front, IsOnce, IsIndex, IsFirstAdded}
+use Rattle.kin_graph.specs.Lists.{few, place_of, stands, with_new, change_of_put, taken_back, front, HasKeysOnce, IsIndex, IsFirstAdded}
 
 abbrev pub or_else : Option ℕ → Option ℕ → Option ℕ
 or_else None o = o
@@ -99,10 +99,10 @@ module _ {K T : Type 0} {cmp : K → K → Ordering} (o : IsTotalOrder cmp) (key
     by_test true e = rw (turned, e, ← place-same (key y) k e xs, new) refl
     by_test false e = rw (turned, e) (or_none (place_of cmp key k xs))
 
-  pub once-none : IsOnce cmp key []
+  pub once-none : HasKeysOnce cmp key []
   once-none i d h = absurd (omega (arith, h))
 
-  pub once-push : (xs : List T) (y : T) → IsOnce cmp key xs → place_of cmp key (key y) xs ≡ None → IsOnce cmp key (xs ++ y ∷ [])
+  pub once-push : (xs : List T) (y : T) → HasKeysOnce cmp key xs → place_of cmp key (key y) xs ≡ None → HasKeysOnce cmp key (xs ++ y ∷ [])
   once-push xs y once new i d h = ⊎_elim at_old at_end (cases_lt i (length xs)) where
     at_old : i < length xs → place_of cmp key (key (get_or (xs ++ y ∷ []) i d)) (xs ++ y ∷ []) ≡ Some i
     at_old k = rw (get_or_append_left xs (y ∷ []) d i k, position-push (λ x. is_at (cmp (key (get_or xs i d))) (key x)) xs y, once i d k) refl
@@ -113,12 +113,12 @@ module _ {K T : Type 0} {cmp : K → K → Ordering} (o : IsTotalOrder cmp) (key
         rw (get_or_push xs y d i e, place-push xs y new (key y), (eq_by_cmp_equiv o).refl (key y)) (ap Some e)
 
   -- the last one stands at no other place
-  pub once-last : (xs : List T) (y : T) → IsOnce cmp key (xs ++ y ∷ []) → place_of cmp key (key y) xs ≡ None
+  pub once-last : (xs : List T) (y : T) → HasKeysOnce cmp key (xs ++ y ∷ []) → place_of cmp key (key y) xs ≡ None
   once-last xs y once =
       let long : length xs < length (xs ++ y ∷ []) = omega (arith, length-append xs (y ∷ [])) in
       position-front (λ x. is_at (cmp (key y)) (key x)) xs (y ∷ []) (rw (get_or_push xs y y (length xs) refl) at (once (length xs) y long))
 
-  pub once-front : (xs : List T) (y : T) → IsOnce cmp key (xs ++ y ∷ []) → IsOnce cmp key xs
+  pub once-front : (xs : List T) (y : T) → HasKeysOnce cmp key (xs ++ y ∷ []) → HasKeysOnce cmp key xs
   once-front xs y once i d h =
       let long : i < length (xs ++ y ∷ []) = omega (arith, length-append xs (y ∷ []), h) in
       position-before (λ x. is_at (cmp (key (get_or xs i d))) (key x)) xs y i h (rw (get_or_append_left xs (y ∷ []) d i h) at (once i d long))
@@ -133,7 +133,7 @@ module _ {K T : Type 0} {cmp : K → K → Ordering} (o : IsTotalOrder cmp) (key
       puts k ∙ ap₂ (λ (l : K) (m : ℕ). cond (is_at (cmp l) k) (Some m) (lookup (is_at (cmp k)) places)) same long
       ∙ ap (λ (a : Option ℕ). cond (is_at (cmp (key y)) k) (Some (length xs)) a) (index k) ∙ sym (place-push xs y new k)
 
-  pub index-front : (xs : List T) (y : T) (places less : List (K × ℕ)) → IsOnce cmp key (xs ++ y ∷ []) → IsIndex cmp key (xs ++ y ∷ []) places
+  pub index-front : (xs : List T) (y : T) (places less : List (K × ℕ)) → HasKeysOnce cmp key (xs ++ y ∷ []) → IsIndex cmp key (xs ++ y ∷ []) places
       → ((k : K) → lookup (is_at (cmp k)) less ≡ cond (is_at (cmp (key y)) k) None (lookup (is_at (cmp k)) places)) → IsIndex cmp key xs less
   index-front xs y places less once index takes k = takes k ∙ by_test (is_at (cmp (key y)) k) refl where
     new : place_of cmp key (key y) xs ≡ None
@@ -148,7 +148,7 @@ module _ {K T : Type 0} {cmp : K → K → Ordering} (o : IsTotalOrder cmp) (key
     pub place-set : (k : K) → place_of cmp key k (set xs i y) ≡ place_of cmp key k xs
     place-set k = position-set (λ x. is_at (cmp k) (key x)) xs i y y (ap is_eq (sym (alike_right o (key (get_or xs i y)) (key y) k same)))
 
-    pub once-set : IsOnce cmp key xs → IsOnce cmp key (set xs i y)
+    pub once-set : HasKeysOnce cmp key xs → HasKeysOnce cmp key (set xs i y)
     once-set once j d h = place-set (key (get_or (set xs i y) j d)) ∙ ⊎_elim at_it beside (cases_eq j i) where
       inside : j < length xs
       inside = omega (arith, length-set {A = T} xs i y, h)
@@ -175,7 +175,7 @@ module _ {K T : Type 0} {cmp : K → K → Ordering} (o : IsTotalOrder cmp) (key
   }
 
   -- an item stands at no place before its own
-  pub once-before : (xs : List T) (i : ℕ) (x : T) → IsOnce cmp key xs → i < length xs → x ≡ get_or xs i x → place_of cmp key (key x) (take i xs) ≡ None
+  pub once-before : (xs : List T) (i : ℕ) (x : T) → HasKeysOnce cmp key xs → i < length xs → x ≡ get_or xs i x → place_of cmp key (key x) (take i xs) ≡ None
   once-before xs i x once within at =
       let split : take i xs ++ drop i xs ≡ xs = take-append-drop i xs in
       let long : length (take i xs) ≡ i = omega (arith, length-take i xs, within) in
@@ -186,7 +186,7 @@ module _ {K T : Type 0} {cmp : K → K → Ordering} (o : IsTotalOrder cmp) (key
   first-push-few xs y places a new empty short =
       record { once = once-push xs y a.once new; found = inr (nil_from_length places empty, omega (arith, length-append xs (y ∷ []), short)) }
 
-  pub first-push : (xs : List T) (y : T) (places more : List (K × ℕ)) (j : K) (n : ℕ) → j ≡ key y → n ≡ length xs → IsOnce cmp key xs → place_of cmp key (key y) xs ≡ None
+  pub first-push : (xs : List T) (y : T) (places more : List (K × ℕ)) (j : K) (n : ℕ) → j ≡ key y → n ≡ length xs → HasKeysOnce cmp key xs → place_of cmp key (key y) xs ≡ None
       → IsIndex cmp key xs places → ((k : K) → lookup (is_at (cmp k)) more ≡ cond (is_at (cmp j) k) (Some n) (lookup (is_at (cmp k)) places)) → IsFirstAdded cmp key (xs ++ y ∷ []) more
   first-push xs y places more j n same long once new index puts =
       record { once = once-push xs y once new; found = inl (index-push xs y places more j n same long new index puts) }
@@ -198,7 +198,7 @@ module _ {K T : Type 0} {cmp : K → K → Ordering} (o : IsTotalOrder cmp) (key
   pub first-copy : (xs : List T) (places empty : List (K × ℕ)) → IsFirstAdded cmp key xs places → length places ≡ 0 → empty ≡ [] → IsFirstAdded cmp key xs empty
   first-copy xs places empty a none e = subst (IsFirstAdded cmp key xs) (nil_from_length places none ∙ sym e) a
 
-  pub first-indexed : (xs : List T) (places : List (K × ℕ)) → IsOnce cmp key xs → IsIndex cmp key xs places → IsFirstAdded cmp key xs places
+  pub first-indexed : (xs : List T) (places : List (K × ℕ)) → HasKeysOnce cmp key xs → IsIndex cmp key xs places → IsFirstAdded cmp key xs places
   first-indexed xs places once index = record { once = once; found = inl index }
 
   -- an item whose key has a place isn't put in again

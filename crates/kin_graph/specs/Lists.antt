@@ -36,8 +36,8 @@ taken_back change.Added items = front items
 taken_back _ items = items
 
 -- each item is the first one with its key
-abbrev pub IsOnce : {K T : Type 0} → (K → K → Ordering) → (T → K) → List T → Type 0
-IsOnce {K} {T} cmp key items = (i : ℕ) (d : T) → i < length items → place_of cmp key (key (slice_index_or items i d)) items ≡ Some i
+abbrev pub HasKeysOnce : {K T : Type 0} → (K → K → Ordering) → (T → K) → List T → Type 0
+HasKeysOnce {K} {T} cmp key items = (i : ℕ) (d : T) → i < length items → place_of cmp key (key (slice_index_or items i d)) items ≡ Some i
 
 -- the places at which keys are looked up are those of the items
 abbrev pub IsIndex : {K T : Type 0} → (K → K → Ordering) → (T → K) → List T → List (K × ℕ) → Type 0
@@ -45,5 +45,5 @@ IsIndex {K} cmp key items places = (k : K) → lookup (is_at (cmp k)) places ≡
 
 -- each key stands once; the items are few, or there is an index of them
 pub record IsFirstAdded {K T : Type 0} (cmp : K → K → Ordering) (key : T → K) (items : List T) (places : List (K × ℕ)) : Type 0 where
-  pub once : IsOnce cmp key items
+  pub once : HasKeysOnce cmp key items
   pub found : (IsIndex cmp key items places) ⊎ ((places ≡ []) × (length items ≤ few))

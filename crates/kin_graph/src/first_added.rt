@@ -2,7 +2,7 @@
 
 ghost use Rattle.std.specs.Prelude.{◌≡◌, ◌<◌, [], ◌++◌, ◌∷◌, IfOk, OnOk, OnErr, None, length, slice_set, slice_index_or};
 ghost use Rattle.std.specs.declared.cmp.Ordering.TheVariants.{Equal};
-ghost use Rattle.kin_graph.specs.Lists.{IsFirstAdded, IsIndex, IsOnce, change_of_put, front, place_of, taken_back, with_new};
+ghost use Rattle.kin_graph.specs.Lists.{IsFirstAdded, IsIndex, HasKeysOnce, change_of_put, front, place_of, taken_back, with_new};
 
 use crate::changes::Change;
 use kin_ids::Memory;
@@ -180,7 +180,7 @@ fn index_of<K: Ord + Copy + Drop, T: Keyed<K>>(
     alloc: Global,
     items: &[T],
 ) -> Result<BTreeMap<K, usize>, AllocError>
-    requires { IsOnce K.cmp T.key items.now }
+    requires { HasKeysOnce K.cmp T.key items.now }
     ensures { IfOk result (λ m. IsIndex K.cmp T.key items.now m.entries) }
 {
     let mut places = BTreeMap::new(alloc);

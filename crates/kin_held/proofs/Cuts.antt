@@ -4,6 +4,7 @@ use Rattle.std.proofs.lemmas.Bool.{cond_both, le-leb, lt-leb, leb-true}
 use Rattle.kin_ids.specs.declared.ops.Piece.{Piece}
 use Rattle.kin_ids.specs.declared.stamps.Stamp.{Stamp}
 use Rattle.kin_ids.specs.Lines.{end_of, IsLine, IsEnd, stamps_of, upto, past}
+use Rattle.kin_ids.proofs.Joins.{past-end_of}
 use Rattle.kin_ids.proofs.Lines.{upto-line, upto-end, past-line}
 use Rattle.kin_held.specs.Chains.{IsRun, pieces_upto, pieces_past}
 use Rattle.kin_held.proofs.Pieces.{stamps_of-pieces_upto, stamps_of-pieces_past}
@@ -31,21 +32,13 @@ end_upto at b [] = λ e. sym e
 end_upto at b (s ∷ ss) = cond_both (leb s.to b) (s ∷ upto b ss) [] (λ ys. end_of at ys ≡ b → IsEnd at (s ∷ ss) b)
     (λ _ e. inr (end_upto s.to b ss e)) (λ _ e. inl (sym e))
 
--- what is left past a place leads to the end
-pub end_of-past : (at b : ℕ) (ss : List Stamp) → IsLine at ss → IsEnd at ss b → end_of b (past b ss) ≡ end_of at ss
-end_of-past at b [] line e = e
-end_of-past at b (s ∷ ss) line place =
-    cond_both (leb s.to b) (past b ss) (s ∷ ss) (λ ys. end_of b ys ≡ end_of s.to ss)
-    (λ t. ⊎_elim (λ (e : b ≡ at). let low = leb-true _ _ t in let some : at < s.to = line.1 in absurd (omega arith)) (λ (later : IsEnd s.to ss b). end_of-past s.to b ss line.2 later) place)
-    (λ _. refl)
-
 -- what is cut at a place of a run is a run to it
 pub IsRun-pieces_upto : (at b to : ℕ) (ps : List Piece) → IsRun at ps to → IsEnd at (stamps_of ps) b → IsRun at (pieces_upto b ps) b
 IsRun-pieces_upto at b to ps run place = rw (stamps_of-pieces_upto b ps) (upto-line at b (stamps_of ps) run.0, upto-end at b (stamps_of ps) run.0 place)
 
 -- what is left past a place of a run is a run from it
 pub IsRun-pieces_past : (at b to : ℕ) (ps : List Piece) → IsRun at ps to → IsEnd at (stamps_of ps) b → IsRun b (pieces_past b ps) to
-IsRun-pieces_past at b to ps run place = rw (stamps_of-pieces_past b ps) (past-line at b (stamps_of ps) run.0 place, end_of-past at b (stamps_of ps) run.0 place ∙ run.1)
+IsRun-pieces_past at b to ps run place = rw (stamps_of-pieces_past b ps) (past-line at b (stamps_of ps) run.0 place, past-end_of at b (stamps_of ps) run.0 place ∙ run.1)
 
 -- a position that the pieces up to it reach is a place
 pub place_from_end : (at b : ℕ) (ps : List Piece) → end_of at (stamps_of (pieces_upto b ps)) ≡ b → IsEnd at (stamps_of ps) b

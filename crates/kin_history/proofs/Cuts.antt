@@ -5,6 +5,7 @@ use Rattle.kin_ids.specs.declared.stamps.Stamp.{Stamp}
 use Rattle.kin_ids.specs.Order.{within}
 use Rattle.kin_ids.specs.Lines.{IsEnd, end_of, has, upto, past}
 use Rattle.kin_ids.proofs.Lines.{IsEnd-append, upto-ends, upto-line, upto-end, end_within, end_grows, upto-has, upto-past, end-past, past-line}
+use Rattle.kin_ids.proofs.Joins.{within-law}
 use Rattle.kin_ids.proofs.Turns.{fair-end}
 use Rattle.kin_script.specs.declared.events.Event.{Event}
 use Rattle.kin_script.specs.declared.events.Event.TheVariants as event
@@ -131,7 +132,8 @@ module _ (set : Setting) where
   pub sealed : (h : List Event) (i k : ℕ) (s : Stamp) → IsSound set h i → has (within (line set h) (vector set h) k i) s ≡ true → s.inc.0 < inc set h i → s.to ≤ base set h i (s.inc.0 + 1)
   sealed h i k s g in_it old =
       let count = g.count in
-      (g.places s (upto-has (vector set h k i) (line set h i) s in_it).0).ends (omega arith)
+      let front = subst (λ ss. has ss s ≡ true) (within-law (line set h) (vector set h) k i 0 g.run) in_it in
+      (g.places s (upto-has (vector set h k i) (line set h i) s front).0).ends (omega arith)
 
   -- what an ended incarnation stamped past its seal is within no vector
   pub never-within : (h es : List Event) (i k : ℕ) (s : Stamp) → 0 < set.parts → IsHistory set (after h es) → s.inc.0 < inc set h i → base set h i (s.inc.0 + 1) < s.to →

@@ -8,3 +8,5 @@ pub mod Mined
 pub mod Drained
 pub mod Ordered
 pub mod Refused
+pub mod Answered
+pub mod Framed

@@ -1,39 +1,30 @@
 -- The agreed order is that of the lines' transactions, and later events leave it.
-use Rattle.std.proofs.Common.{◌≡◌, ℕ, zero, suc, ◌<◌, ◌≤◌, List, [], ◌∷◌, ◌++◌, length, take, refl, sym, ◌∙◌, ap, arith, add-one}
+use Rattle.std.proofs.Common.{◌≡◌, ℕ, zero, suc, ◌<◌, ◌≤◌, List, [], ◌∷◌, ◌++◌, take, refl, sym, ◌∙◌, ap, arith, add-one}
 use Rattle.kin_ids.specs.declared.ops.Record.{Record}
 use Rattle.kin_ids.specs.declared.stamps.Stamp.{Stamp}
 use Rattle.kin_ids.specs.Lines.{IsLine, IsEnd, end_of, upto, past}
 use Rattle.kin_ids.specs.Graph.{empty_graph}
 use Rattle.kin_ids.specs.Order.{feed_at, entries, between, of_epoch, order, folded, within}
-use Rattle.kin_ids.specs.Records.{DoNotFall, joined}
+use Rattle.kin_ids.specs.Records.{DoNotFall, line_records, line_entries}
 use Rattle.kin_ids.proofs.Lines.{line_grows, upto-line, upto-ends, upto-end, past-line}
 use Rattle.kin_ids.proofs.Alike.{order-alike}
-use Rattle.kin_ids.proofs.Joins.{between-none, between-front, entries-split, joined-is, past-end_of}
+use Rattle.kin_ids.proofs.Joins.{between-front, line_records-are, line_entries-are, past-end_of, within-law}
 use Rattle.kin_ids.proofs.Orders.{order-law}
 use Rattle.kin_script.specs.declared.events.Event.{Event}
 use Rattle.kin_history.specs.Setting.{Setting, nodes, IsHistory, after}
 use Rattle.kin_history.specs.Lines.{line}
 use Rattle.kin_history.specs.Vectors.{cuts, vector}
 use Rattle.kin_history.specs.CutLaws.{IsCutSound}
-use Rattle.kin_history.specs.OrderLaws.{line_entries, epoch_of_lines, order_of_lines, IsOfLines, IsSettled}
+use Rattle.kin_history.specs.OrderLaws.{epoch_of_lines, order_of_lines, IsOfLines, IsSettled}
 use Rattle.kin_history.proofs.Sound.{IsSound, sound}
 use Rattle.kin_history.proofs.Cuts.{sound-cuts, keeps-later}
-
--- the records of stamps that follow each other are those from the first to the last
-line-entries : (e i : ℕ) (feed : List Record) (at : ℕ) (ss : List Stamp) → IsLine at ss → line_entries e i feed ss ≡ entries e i at (between feed at (end_of at ss))
-line-entries e i feed at [] l = rw (between-none feed at) refl
-line-entries e i feed at (s ∷ ss) l =
-    let some : at < s.to = l.1 in
-    ap (λ (n : ℕ). entries e i n (between feed n s.to) ++ line_entries e i feed ss) l.0
-    ∙ (ap (λ xs. entries e i at (between feed at s.to) ++ xs) (line-entries e i feed s.to ss l.2)
-    ∙ sym (entries-split e i feed at s.to (end_of s.to ss) (omega arith) (line_grows s.to ss l.2)))
 
 -- the records of the transactions between two ends of a line
 between-entries : (e i : ℕ) (feed : List Record) (ss : List Stamp) (was now : ℕ) → IsLine 0 ss → IsEnd 0 ss was → IsEnd 0 ss now → was ≤ now → line_entries e i feed (past was (upto now ss)) ≡ entries e i was (between feed was now)
 between-entries e i feed ss was now l from to le =
     let front = upto-line 0 now ss l in
     let inside = upto-ends 0 now was ss l from le in
-    line-entries e i feed was (past was (upto now ss)) (past-line 0 was (upto now ss) front inside)
+    line_entries-are e i feed was (past was (upto now ss)) (past-line 0 was (upto now ss) front inside)
     ∙ ap (λ (n : ℕ). entries e i was (between feed was n)) (past-end_of 0 was (upto now ss) front inside ∙ upto-end 0 now ss l to)
 
 module _ (set : Setting) (h : List Event) (some : 0 < set.parts) (legal : IsHistory set h) where
@@ -56,16 +47,17 @@ module _ (set : Setting) (h : List Event) (some : 0 < set.parts) (legal : IsHist
   order-of-lines zero le = refl
   order-of-lines (suc k) le = rw (order-of-lines k (omega arith), epoch-of-lines k (nodes set) (omega arith) (omega arith)) refl
 
-  joined-within : (k i : ℕ) → i < nodes set → joined (feed_at set.feeds i) (within (line set h) (vector set h) k i) ≡ take (vector set h k i) (feed_at set.feeds i)
-  joined-within k i lt =
+  records-within : (k i : ℕ) → i < nodes set → line_records (feed_at set.feeds i) (within (line set h) (vector set h) k i) ≡ take (vector set h k i) (feed_at set.feeds i)
+  records-within k i lt =
       let s = sound-cuts set h i some legal lt in
       let g = sound set h i some legal in
       let v = vector set h k i in
-      joined-is (feed_at set.feeds i) 0 (upto v (line set h i)) (upto-line 0 v (line set h i) g.run)
-      ∙ (ap (between (feed_at set.feeds i) 0) (upto-end 0 v (line set h i) g.run (s.ends k)) ∙ between-front (feed_at set.feeds i) v)
+      ap (line_records (feed_at set.feeds i)) (within-law (line set h) (vector set h) k i 0 g.run)
+      ∙ (line_records-are (feed_at set.feeds i) 0 (upto v (line set h i)) (upto-line 0 v (line set h i) g.run)
+      ∙ (ap (between (feed_at set.feeds i) 0) (upto-end 0 v (line set h i) g.run (s.ends k)) ∙ between-front (feed_at set.feeds i) v))
 
   pub of-lines : (k : ℕ) → k ≤ cuts set h → IsOfLines set h k
-  of-lines k le = record { all = order-of-lines k le; once = order-law set.feeds (vector set h) k (not-falling k le); each = joined-within k }
+  of-lines k le = record { all = order-of-lines k le; once = order-law set.feeds (vector set h) k (not-falling k le); each = records-within k }
 
 pub settled : (set : Setting) (h es : List Event) (k : ℕ) → 0 < set.parts → IsHistory set (after h es) → k ≤ cuts set h → IsSettled set h (after h es) k
 settled set h es k some legal le =

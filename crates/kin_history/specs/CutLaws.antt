@@ -29,8 +29,8 @@ pub record KeepsCuts (set : Setting) (was now : List Event) (i : ℕ) : Type 0 w
 abbrev pub KeepLaw : Type 0
 KeepLaw = (set : Setting) (h : List Event) (e : Event) (i : ℕ) → 0 < set.parts → IsHistory set (e ∷ h) → i < nodes set → KeepsCuts set h (e ∷ h) i
 
-abbrev pub LaterLaw : Type 0
-LaterLaw = (set : Setting) (h es : List Event) (i : ℕ) → 0 < set.parts → IsHistory set (after h es) → i < nodes set → KeepsCuts set h (after h es) i
+abbrev pub KeepLaterLaw : Type 0
+KeepLaterLaw = (set : Setting) (h es : List Event) (i : ℕ) → 0 < set.parts → IsHistory set (after h es) → i < nodes set → KeepsCuts set h (after h es) i
 
 -- A transaction within a vector whose incarnation has ended ends at or before that incarnation's seal, the base of the next one.
 abbrev pub SealedLaw : Type 0

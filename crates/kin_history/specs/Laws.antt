@@ -28,8 +28,8 @@ pub record IsWholeLine (set : Setting) (h : List Event) (i : ℕ) : Type 0 where
   pub sizes : (s : Stamp) → has (line set h i) s ≡ true → IsSized s
   pub places : (s : Stamp) → has (line set h i) s ≡ true → IsPlaced (sent set h) (bases set h i) i s
 
-abbrev pub LineLaw : Type 0
-LineLaw = (set : Setting) (h : List Event) (i : ℕ) → 0 < set.parts → IsHistory set h → IsWholeLine set h i
+abbrev pub WholeLineLaw : Type 0
+WholeLineLaw = (set : Setting) (h : List Event) (i : ℕ) → 0 < set.parts → IsHistory set h → IsWholeLine set h i
 
 -- Each incarnation has a base. The first is 0, none is below an earlier one, and none is above the agreed position.
 pub record IsBased (set : Setting) (h : List Event) (i : ℕ) : Type 0 where

@@ -9,3 +9,5 @@ pub mod CutLaws
 pub mod MiningLaws
 pub mod OrderLaws
 pub mod RefusalLaws
+pub mod AnswerLaws
+pub mod FrameLaws

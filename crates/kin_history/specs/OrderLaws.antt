@@ -3,17 +3,12 @@ use Rattle.std.specs.Prelude.{ℕ, zero, suc, ◌≡◌, ◌<◌, ◌≤◌, Lis
 use Rattle.kin_ids.specs.declared.ops.Record.{Record}
 use Rattle.kin_ids.specs.declared.stamps.Stamp.{Stamp}
 use Rattle.kin_ids.specs.Lines.{upto, past}
-use Rattle.kin_ids.specs.Order.{Entry, feed_at, entries, between, order, snapshot, within}
-use Rattle.kin_ids.specs.Records.{IsInOrder, joined}
+use Rattle.kin_ids.specs.Order.{Entry, feed_at, order, snapshot, within}
+use Rattle.kin_ids.specs.Records.{IsAgreedOrder, line_records, line_entries}
 use Rattle.kin_script.specs.declared.events.Event.{Event}
 use Rattle.kin_history.specs.Setting.{Setting, nodes, IsHistory, after}
 use Rattle.kin_history.specs.Lines.{line}
 use Rattle.kin_history.specs.Vectors.{cuts, vector}
-
--- the records of a node's transactions in an epoch, each at its place
-abbrev pub line_entries : ℕ → ℕ → List Record → List Stamp → List Entry
-line_entries e i feed [] = []
-line_entries e i feed (s ∷ ss) = entries e i s.from (between feed s.from s.to) ++ line_entries e i feed ss
 
 -- the records of the transactions of the first n nodes' lines that epoch e adds, from one vector to the next
 abbrev pub epoch_of_lines : List (List Record) → (ℕ → List Stamp) → ℕ → (ℕ → ℕ) → (ℕ → ℕ) → ℕ → List Entry
@@ -29,8 +24,8 @@ order_of_lines feeds lines vectors (suc k) = order_of_lines feeds lines vectors 
 -- each record up to the vector's position once, places ascend, and these are the records of the node's transactions within the vector.
 pub record IsOfLines (set : Setting) (h : List Event) (k : ℕ) : Type 0 where
   pub all : order set.feeds (vector set h) k ≡ order_of_lines set.feeds (line set h) (vector set h) k
-  pub once : IsInOrder set.feeds (vector set h) k
-  pub each : (i : ℕ) → i < nodes set → joined (feed_at set.feeds i) (within (line set h) (vector set h) k i) ≡ take (vector set h k i) (feed_at set.feeds i)
+  pub once : IsAgreedOrder set.feeds (vector set h) k
+  pub each : (i : ℕ) → i < nodes set → line_records (feed_at set.feeds i) (within (line set h) (vector set h) k i) ≡ take (vector set h k i) (feed_at set.feeds i)
 
 abbrev pub OfLinesLaw : Type 0
 OfLinesLaw = (set : Setting) (h : List Event) (k : ℕ) → 0 < set.parts → IsHistory set h → k ≤ cuts set h → IsOfLines set h k

@@ -1,11 +1,13 @@
 //! Laws of histories, each the contract of a function that does nothing. They hold for every list of events in range, over
 //! any feeds and one partition or more.
 
-ghost use Rattle.kin_history.specs.Laws.{LineLaw, BaseLaw, AgreedLaw, AckLaw, WholeLaw, KeptLaw, LastingLaw, CutBackLaw, LossLaw, BasesStayLaw};
-ghost use Rattle.kin_history.specs.CutLaws.{VectorLaw, KeepLaw, LaterLaw, SealedLaw, NeverWithinLaw};
+ghost use Rattle.kin_history.specs.Laws.{WholeLineLaw, BaseLaw, AgreedLaw, AckLaw, WholeLaw, KeptLaw, LastingLaw, CutBackLaw, LossLaw, BasesStayLaw};
+ghost use Rattle.kin_history.specs.CutLaws.{VectorLaw, KeepLaw, KeepLaterLaw, SealedLaw, NeverWithinLaw};
 ghost use Rattle.kin_history.specs.OrderLaws.{OfLinesLaw, SettledLaw};
 ghost use Rattle.kin_history.specs.MiningLaws.{MiningLaw, DrainLaw, DrainedLaw};
 ghost use Rattle.kin_history.specs.RefusalLaws.{RefusedLaw};
+ghost use Rattle.kin_history.specs.AnswerLaws.{StampLaw, NotSentLaw, DeliverLaw, ReportLaw, RaiseLaw, CutLaw, CommitLaw, BeginLaw, MineLaw, TurnLaw, CrashLaw, RestartLaw};
+ghost use Rattle.kin_history.specs.FrameLaws.{OtherNodesLaw, OtherPartsLaw, RaisesOneLaw, TopLaw};
 
 /// What is agreed of a node: where it lies, that every partition has acknowledged, received and reported all up to it, and
 /// that it never falls, nor what it covers changes.
@@ -19,7 +21,7 @@ pub fn agreement_laws()
 
 /// What stays of a node's line over crashes and restarts.
 pub fn restart_laws()
-    ensures lines { LineLaw }
+    ensures lines { WholeLineLaw }
     ensures bases { BaseLaw }
     ensures cut_back { CutBackLaw }
     ensures lost { LossLaw }
@@ -31,7 +33,7 @@ pub fn restart_laws()
 pub fn vector_laws()
     ensures rising { VectorLaw }
     ensures kept { KeepLaw }
-    ensures kept_later { LaterLaw }
+    ensures kept_later { KeepLaterLaw }
     ensures sealed { SealedLaw }
     ensures never_within { NeverWithinLaw }
 {}
@@ -54,4 +56,36 @@ pub fn mining_laws()
 /// A refused event changes nothing.
 pub fn refusal_laws()
     ensures { RefusedLaw }
+{}
+
+/// What nodes' events answer: each answer, and each refusal, exactly where its cause holds.
+pub fn node_answers()
+    ensures stamp { StampLaw }
+    ensures raise { RaiseLaw }
+    ensures crash { CrashLaw }
+    ensures restart { RestartLaw }
+{}
+
+/// What the events of partitions answer.
+pub fn part_answers()
+    ensures not_sent { NotSentLaw }
+    ensures deliver { DeliverLaw }
+    ensures report { ReportLaw }
+    ensures commit { CommitLaw }
+{}
+
+/// What cuts and mining answer.
+pub fn epoch_answers()
+    ensures cut { CutLaw }
+    ensures begin { BeginLaw }
+    ensures turn { TurnLaw }
+    ensures mine { MineLaw }
+{}
+
+/// An event leaves what other nodes and other partitions have, and a raise raises one node. Tops are what arrived.
+pub fn frame_laws()
+    ensures nodes { OtherNodesLaw }
+    ensures parts { OtherPartsLaw }
+    ensures raise { RaisesOneLaw }
+    ensures top { TopLaw }
 {}

@@ -20,6 +20,7 @@ use Rattle.kin_ids.specs.Operations.{op_part, all_ops, part_ops}
 use Rattle.kin_ids.specs.Parts.{PartView, IsPart, op_applied, ops_applied}
 use Rattle.kin_ids.proofs.Joins.{folded-append}
 use Rattle.kin_ids.proofs.Same.{same_user-true}
+use Rattle.kin_ids.proofs.PartOps.{ops-say, part-home}
 use Rattle.kin_ids.proofs.Runs as runs
 use Rattle.kin_ids.proofs.Runs.{HasOps, pieces-part}
 use Rattle.kin_graph.specs.State.{PartState, after}
@@ -28,34 +29,11 @@ use Rattle.kin_table.specs.Vectors.{end_at}
 use Rattle.kin_hub.specs.Commits.{pieces_applied, nodes_applied, IsOfStore}
 use Rattle.kin_hub.specs.Lines.{IsHubPiece}
 
--- nobody is mentioned less after more operations
-said-one : (at : Place) (v : PartView) (o : Op) (u : User) → v.said u ≤ (op_applied at v o).said u
-said-one at v (op.Said w) u = here (same_user w u) refl
-  where
-    here : (b : Bool) → same_user w u ≡ b → v.said u ≤ cond b (v.said w + 1) (v.said u)
-    here true e = let same : v.said w ≡ v.said u = ap v.said (same_user-true w u e) in omega arith
-    here false e = omega arith
-said-one at v (op.AddOut a b) u = omega arith
-said-one at v (op.AddIn a b) u = omega arith
-said-one at v (op.DropOut a b) u = omega arith
-said-one at v (op.DropIn a b) u = omega arith
-said-one at v (op.MentionOut a b) u = omega arith
-said-one at v (op.MentionIn a b) u = omega arith
-said-one at v (op.Use a t) u = omega arith
-said-one at v (op.TagUse t a) u = omega arith
-
-said-ops : (e i : ℕ) (v : PartView) (xs : List Numbered) (u : User) → v.said u ≤ (ops_applied e i v xs).said u
-said-ops e i v [] u = omega arith
-said-ops e i v (x ∷ xs) u =
-    let at : Place = record { epoch = record { 0 = e }; ingest = record { 0 = i }; number = x.number } in
-    let one = said-one at v x.op u in
-    let more = said-ops e i (op_applied at v x.op) xs u in
-    omega arith
-
+-- nobody is mentioned less after more pieces
 pub said-pieces : (e : ℕ) (v : PartView) (xs : List Piece) (u : User) → v.said u ≤ (pieces_applied e v xs).said u
 said-pieces e v [] u = omega arith
 said-pieces e v (x ∷ xs) u =
-    let one = said-ops e x.stamp.ingest.0 v x.ops u in
+    let one = ops-say e x.stamp.ingest.0 v x.ops u in
     let more = said-pieces e (after e x v) xs u in
     omega arith
 
@@ -85,12 +63,6 @@ said-front e v xs k u =
     ap (λ (w : PartView). w.said u) (sym (pieces-append e v (take k xs) (drop k xs)) ∙ ap (pieces_applied e v) (take-append-drop k xs)) in
     omega arith
 
--- a partition's operations live there
-passing : (parts p : ℕ) (xs : List Numbered) → All (λ (y : Numbered). op_part parts y.op ≡ p) (filter (λ y. eqb (op_part parts y.op) p) xs)
-passing parts p [] = All-nil (λ (y : Numbered). op_part parts y.op ≡ p)
-passing parts p (x ∷ xs) = cond_both (eqb (op_part parts x.op) p) (x ∷ filter (λ y. eqb (op_part parts y.op) p) xs) (filter (λ y. eqb (op_part parts y.op) p) xs) (All (λ (y : Numbered). op_part parts y.op ≡ p))
-    (λ same. All-cons (λ (y : Numbered). op_part parts y.op ≡ p) x (filter (λ y. eqb (op_part parts y.op) p) xs) (eqb-true (op_part parts x.op) p same) (passing parts p xs)) (λ _. passing parts p xs)
-
 module _ (parts : ℕ) (feeds : List (List Record)) (p i : ℕ) (bases : List ℕ) (kept : ℕ) where
   abbrev Of : Piece → Type 0
   Of x = IsHubPiece parts feeds p i bases kept x
@@ -100,7 +72,7 @@ module _ (parts : ℕ) (feeds : List (List Record)) (p i : ℕ) (bases : List �
   of-store s part count x of = record {
     part = of.part ∙ sym part;
     home = subst (λ (n : ℕ). All (λ (y : Numbered). op_part n y.op ≡ s.part) x.ops) (sym count) (subst (λ (q : ℕ). All (λ (y : Numbered). op_part parts y.op ≡ q) x.ops) (sym part)
-        (subst (All (λ (y : Numbered). op_part parts y.op ≡ p)) (sym (of.fits.exact ∙ ap (λ (q : ℕ). part_ops parts q x.stamp.from (between (feed_at feeds x.stamp.ingest.0) x.stamp.from x.stamp.to)) of.part)) (passing parts p (all_ops x.stamp.from (between (feed_at feeds x.stamp.ingest.0) x.stamp.from x.stamp.to)))));
+        (subst (All (λ (y : Numbered). op_part parts y.op ≡ p)) (sym (of.fits.exact ∙ ap (λ (q : ℕ). part_ops parts q x.stamp.from (between (feed_at feeds x.stamp.ingest.0) x.stamp.from x.stamp.to)) of.part)) (part-home parts p x.stamp.from (between (feed_at feeds x.stamp.ingest.0) x.stamp.from x.stamp.to))));
   }
 
   has-ops : (x : Piece) → Of x → HasOps parts p (feed_at feeds i) x

@@ -1,9 +1,9 @@
 -- A hub whose partition commits an epoch stands for the same as before.
-use Rattle.std.proofs.Common.{◌≡◌, ℕ, zero, suc, ◌+◌, ◌-◌, ◌<◌, ◌≤◌, Bool, true, false, cond, eqb, ⊎_elim, List, [], ◌∷◌, refl, sym, ◌∙◌, ap, subst, arith, length, get_or, max}
+use Rattle.std.proofs.Common.{◌≡◌, ℕ, zero, suc, ◌+◌, ◌-◌, ◌^◌, ◌<◌, ◌≤◌, Bool, true, false, cond, eqb, ⊎_elim, List, [], ◌∷◌, refl, sym, ◌∙◌, ap, subst, arith, length, get_or, max}
 use Rattle.std.proofs.lemmas.Bool.{eqb-true, or_left, or_right, cases_lt}
 use Rattle.std.proofs.lemmas.List.{length-set, get_or-drop}
 use Rattle.std.proofs.lemmas.List.Elements.{All-weaker}
-use Rattle.kin_ids.specs.declared.ops.Record.{Record}
+use Rattle.kin_ids.specs.declared.ids.User.{User}
 use Rattle.kin_ids.specs.declared.ops.Piece.{Piece}
 use Rattle.kin_ids.specs.declared.stamps.Stamp.{Stamp}
 use Rattle.kin_ids.specs.Lines.{IsEnd, has, same_stamp, stamps_of, upto, past}
@@ -19,7 +19,7 @@ use Rattle.kin_graph.specs.State.{PartState, view_of}
 use Rattle.kin_blocks.specs.Snaps.{state_at}
 use Rattle.kin_blocks.specs.Versions.{VersionsView, IsVersions, PutsNext, store_at, released}
 use Rattle.kin_blocks.proofs.Wholes.{join-law}
-use Rattle.kin_blocks.proofs.Few.{few-said}
+use Rattle.kin_blocks.proofs.Few.{few-said, few-vertices}
 use Rattle.kin_held.specs.Chains.{ChainView, IsRun, chain_at, pieces_upto}
 use Rattle.kin_held.specs.Takes.{IsPlace}
 use Rattle.kin_held.proofs.Cuts.{IsRun-pieces_upto}
@@ -29,9 +29,9 @@ use Rattle.kin_table.specs.Tables.{agreed_of, cuts_of}
 use Rattle.kin_hub.specs.Cores.{CoreView, IsCore, held_at}
 use Rattle.kin_hub.specs.Lines.{IsHubPiece}
 use Rattle.kin_hub.specs.Hubs.{HubView, KeepsEpoch, parts_in, nodes_in, chain_in, cuts_in, committed_in, next_ends, first_in, snap_in, store_in}
-use Rattle.kin_hub.specs.Stands.{HubStands, HasStands}
+use Rattle.kin_hub.specs.Stands.{Story, HubStands, HasStory}
 use Rattle.kin_hub.specs.Goes.{HubKeeps}
-use Rattle.kin_hub.specs.Commits.{nodes_applied, IsOfStore, MayTake, CoreForgets, Commits, HasSmallFeeds, AreSnapshot}
+use Rattle.kin_hub.specs.Commits.{nodes_applied, IsOfStore, MayTake, CoreForgets, next_store, MayCommit, MayCommitLaw, FewVerticesLaw, Commits, AreSnapshot}
 use Rattle.kin_ids.proofs.Rounds.{get_or-set}
 use Rattle.kin_hub.proofs.Holding.{node-in}
 use Rattle.kin_hub.proofs.Forgetting.{MayForget, forget-stands}
@@ -48,30 +48,30 @@ count-low : (b : Bool) (n : ℕ) → count_here b n ≤ n
 count-low true n = omega arith
 count-low false n = omega arith
 
-module _ (parts : ℕ) (feeds : List (List Record)) (lines : ℕ → List Stamp) (bases : ℕ → List ℕ) (vectors : ℕ → ℕ → ℕ) (h : HubView) (s : HubStands parts feeds lines bases vectors h) where
+module _ (story : Story) (h : HubView) (s : HubStands story h) where
   -- vectors don't fall, and lie within the feeds
-  pub rise : (i : ℕ) → i < length feeds → (j d : ℕ) → j + d ≤ cuts_in h → vectors j i ≤ vectors (j + d) i
-  rise i i_lt j zero le = let same : j ≡ j + 0 = omega arith in subst (λ (k : ℕ). vectors j i ≤ vectors k i) same (omega arith)
+  pub rise : (i : ℕ) → i < length story.feeds → (j d : ℕ) → j + d ≤ cuts_in h → story.vectors j i ≤ story.vectors (j + d) i
+  rise i i_lt j zero le = let same : j ≡ j + 0 = omega arith in subst (λ (k : ℕ). story.vectors j i ≤ story.vectors k i) same (omega arith)
   rise i i_lt j (suc d) le =
       let one = s.core.core.table.some in
       let less = rise i i_lt j d (omega arith) in
       let step = s.core.grow (j + d) i (omega arith) i_lt in
       let same : j + d + 1 ≡ j + suc d = omega arith in
-      subst (λ (k : ℕ). vectors j i ≤ vectors k i) same (omega arith)
+      subst (λ (k : ℕ). story.vectors j i ≤ story.vectors k i) same (omega arith)
 
-  pub do-not-fall : (k : ℕ) → k ≤ cuts_in h → DoNotFall feeds vectors k
+  pub do-not-fall : (k : ℕ) → k ≤ cuts_in h → DoNotFall story.feeds story.vectors k
   do-not-fall k le = record {
     start = s.core.start;
     grow = λ j i less i_lt. let one = s.core.core.table.some in s.core.grow j i (omega arith) i_lt;
   }
 
-  pub inside : (k i : ℕ) → k ≤ cuts_in h → i < length feeds → vectors k i ≤ length (feed_at feeds i)
+  pub inside : (k i : ℕ) → k ≤ cuts_in h → i < length story.feeds → story.vectors k i ≤ length (feed_at story.feeds i)
   inside k i le i_lt =
       let one = s.core.core.table.some in
       let line = s.core.each_line i i_lt in
-      end-inside 0 (length (feed_at feeds i)) (lines i) (vectors k i) (omega arith) (λ t there. (line.stamps t there).transaction.inside) (s.core.ends k i (omega arith) i_lt).place
+      end-inside 0 (length (feed_at story.feeds i)) (story.lines i) (story.vectors k i) (omega arith) (λ t there. (line.stamps t there).transaction.inside) (s.core.ends k i (omega arith) i_lt).place
 
-  module _ (p : ℕ) (p_lt : p < parts) (more : committed_in h p < cuts_in h) where
+  module _ (p : ℕ) (p_lt : p < story.parts) (more : committed_in h p < cuts_in h) where
     abbrev Done : ℕ
     Done = committed_in h p
 
@@ -84,25 +84,25 @@ module _ (parts : ℕ) (feeds : List (List Record)) (lines : ℕ → List Stamp)
     next-in : Next < length h.core.table.vectors
     next-in = let one = s.core.core.table.some in omega arith
 
-    pub end-is : (i : ℕ) → i < length feeds → (end_at (next_ends h p) i).to ≡ vectors Next i
+    pub end-is : (i : ℕ) → i < length story.feeds → (end_at (next_ends h p) i).to ≡ story.vectors Next i
     end-is i i_lt = (s.core.ends Next i next-in i_lt).to
 
     -- where the next vector is at a node, the partition's chain has a place
-    place : (i : ℕ) → i < length feeds → IsPlace (chain i) (vectors Next i)
+    place : (i : ℕ) → i < length story.feeds → IsPlace (chain i) (story.vectors Next i)
     place i i_lt =
         let ch = s.core.chains p i p_lt i_lt in
         let line = s.core.each_line i i_lt in
         let here = s.core.ends Next i next-in i_lt in
         let there = s.core.ends Done i (let a = next-in in omega arith) i_lt in
-        let floor : (chain i).floor ≡ vectors Done i = s.stores.floors p i p_lt i_lt in
-        let floor_end : IsEnd 0 (lines i) (chain i).floor = subst (IsEnd 0 (lines i)) (sym floor) there.place in
+        let floor : (chain i).floor ≡ story.vectors Done i = s.stores.floors p i p_lt i_lt in
+        let floor_end : IsEnd 0 (story.lines i) (chain i).floor = subst (IsEnd 0 (story.lines i)) (sym floor) there.place in
         let low = rise i i_lt Done 1 (omega arith) in
-        let after : IsEnd (chain i).floor (past (chain i).floor (lines i)) (vectors Next i) = past_end 0 (chain i).floor (vectors Next i) (lines i) line.run floor_end here.place (omega arith) in
-        subst (λ (ss : List Stamp). IsEnd (chain i).floor ss (vectors Next i)) (upto-past (agreed_of h.core.table i) (stamps_of (chain i).held))
-        (IsEnd-append (chain i).floor (upto (agreed_of h.core.table i) (stamps_of (chain i).held)) (past (agreed_of h.core.table i) (stamps_of (chain i).held)) (vectors Next i)
-        (subst (λ (ss : List Stamp). IsEnd (chain i).floor ss (vectors Next i)) (sym ch.whole) after))
+        let after : IsEnd (chain i).floor (past (chain i).floor (story.lines i)) (story.vectors Next i) = past_end 0 (chain i).floor (story.vectors Next i) (story.lines i) line.run floor_end here.place (omega arith) in
+        subst (λ (ss : List Stamp). IsEnd (chain i).floor ss (story.vectors Next i)) (upto-past (agreed_of h.core.table i) (stamps_of (chain i).held))
+        (IsEnd-append (chain i).floor (upto (agreed_of h.core.table i) (stamps_of (chain i).held)) (past (agreed_of h.core.table i) (stamps_of (chain i).held)) (story.vectors Next i)
+        (subst (λ (ss : List Stamp). IsEnd (chain i).floor ss (story.vectors Next i)) (sym ch.whole) after))
 
-    pub may-forget : (i : ℕ) → i < length feeds → MayForget h.core vectors p i (end_at (next_ends h p) i).to
+    pub may-forget : (i : ℕ) → i < length story.feeds → MayForget h.core story.vectors p i (end_at (next_ends h p) i).to
     may-forget i i_lt =
         let is = end-is i i_lt in
         let rest : Next + (cuts_in h - Next) ≡ cuts_in h = omega arith in
@@ -110,43 +110,49 @@ module _ (parts : ℕ) (feeds : List (List Record)) (lines : ℕ → List Stamp)
         record {
           place = subst (IsPlace (chain i)) (sym is) (place i i_lt);
           agreed = let within = (s.core.ends Next i next-in i_lt).within in omega arith;
-          cut = let last = ap (λ (k : ℕ). vectors k i) rest in omega arith;
+          cut = let last = ap (λ (k : ℕ). story.vectors k i) rest in omega arith;
         }
 
-    runs : (i : ℕ) → i < length feeds → IsRun (vectors Done i) (pieces_upto (end_at (next_ends h p) i).to (chain i).held) (vectors Next i)
+    runs : (i : ℕ) → i < length story.feeds → IsRun (story.vectors Done i) (pieces_upto (end_at (next_ends h p) i).to (chain i).held) (story.vectors Next i)
     runs i i_lt =
-        subst (λ (b : ℕ). IsRun (vectors Done i) (pieces_upto b (chain i).held) (vectors Next i)) (sym (end-is i i_lt))
-        (subst (λ (f : ℕ). IsRun f (pieces_upto (vectors Next i) (chain i).held) (vectors Next i)) (s.stores.floors p i p_lt i_lt)
-        (IsRun-pieces_upto (chain i).floor (vectors Next i) (chain i).top (chain i).held (s.core.chains p i p_lt i_lt).run (place i i_lt)))
+        subst (λ (b : ℕ). IsRun (story.vectors Done i) (pieces_upto b (chain i).held) (story.vectors Next i)) (sym (end-is i i_lt))
+        (subst (λ (f : ℕ). IsRun f (pieces_upto (story.vectors Next i) (chain i).held) (story.vectors Next i)) (s.stores.floors p i p_lt i_lt)
+        (IsRun-pieces_upto (chain i).floor (story.vectors Next i) (chain i).top (chain i).held (s.core.chains p i p_lt i_lt).run (place i i_lt)))
 
     -- the next snapshot is the last one with the epoch's records
-    next-snapshot : folded (snapshot feeds vectors Done) (of_epoch feeds Next (vectors Done) (vectors Next) (length feeds)) ≡ snapshot feeds vectors Next
+    next-snapshot : folded (snapshot story.feeds story.vectors Done) (of_epoch story.feeds Next (story.vectors Done) (story.vectors Next) (length story.feeds)) ≡ snapshot story.feeds story.vectors Next
     next-snapshot =
         let count : suc Done ≡ Next = omega arith in
-        subst (λ (k : ℕ). folded (snapshot feeds vectors Done) (of_epoch feeds k (vectors Done) (vectors k) (length feeds)) ≡ snapshot feeds vectors k) count
-        (sym (folded-append empty_graph (order feeds vectors Done) (of_epoch feeds (suc Done) (vectors Done) (vectors (suc Done)) (length feeds))))
+        subst (λ (k : ℕ). folded (snapshot story.feeds story.vectors Done) (of_epoch story.feeds k (story.vectors Done) (story.vectors k) (length story.feeds)) ≡ snapshot story.feeds story.vectors k) count
+        (sym (folded-append empty_graph (order story.feeds story.vectors Done) (of_epoch story.feeds (suc Done) (story.vectors Done) (story.vectors (suc Done)) (length story.feeds))))
 
     -- what the epoch's pieces make of the store
-    pub next-part : IsPart parts p (snapshot feeds vectors Next) (nodes_applied Next (held_at h.core.helds p) (next_ends h p) (view_of (store_in h p Done)) (nodes_in h))
+    pub next-part : IsPart story.parts p (snapshot story.feeds story.vectors Next) (nodes_applied Next (held_at h.core.helds p) (next_ends h p) (view_of (store_in h p Done)) (nodes_in h))
     next-part =
-        subst (λ (n : ℕ). IsPart parts p (snapshot feeds vectors Next) (nodes_applied Next (held_at h.core.helds p) (next_ends h p) (view_of (store_in h p Done)) n)) (sym s.core.nodes_are)
-        (subst (λ (g : Graph). IsPart parts p g (nodes_applied Next (held_at h.core.helds p) (next_ends h p) (view_of (store_in h p Done)) (length feeds))) next-snapshot
-        (nodes-part parts feeds p Next (held_at h.core.helds p) (next_ends h p) (vectors Done) (vectors Next) bases (λ i. (chain i).inc) (snapshot feeds vectors Done) (view_of (store_in h p Done)) (length feeds) runs
-        (λ i i_lt. All-pieces_upto (λ (x : Piece). IsHubPiece parts feeds p i (bases i) (chain i).inc x) (end_at (next_ends h p) i).to (chain i).held (s.core.chains p i p_lt i_lt).held)
+        subst (λ (n : ℕ). IsPart story.parts p (snapshot story.feeds story.vectors Next) (nodes_applied Next (held_at h.core.helds p) (next_ends h p) (view_of (store_in h p Done)) n)) (sym s.core.nodes_are)
+        (subst (λ (g : Graph). IsPart story.parts p g (nodes_applied Next (held_at h.core.helds p) (next_ends h p) (view_of (store_in h p Done)) (length story.feeds))) next-snapshot
+        (nodes-part story.parts story.feeds p Next (held_at h.core.helds p) (next_ends h p) (story.vectors Done) (story.vectors Next) story.bases (λ i. (chain i).inc) (snapshot story.feeds story.vectors Done) (view_of (store_in h p Done)) (length story.feeds) runs
+        (λ i i_lt. All-pieces_upto (λ (x : Piece). IsHubPiece story.parts story.feeds p i (story.bases i) (chain i).inc x) (end_at (next_ends h p) i).to (chain i).held (s.core.chains p i p_lt i_lt).held)
         (s.stores.stores p Done p_lt (s.stores.versions.since p (let count = s.stores.parts_are in omega arith)) (omega arith))))
 
     -- the store may take them
-    pub may-take : AreWithinLimits feeds → (store : PartState) → store ≡ store_in h p Done → store.part ≡ p → store.parts ≡ parts → MayTake Next (held_at h.core.helds p) (next_ends h p) (nodes_in h) store
-    may-take limits store is part count = record {
-      of_store = λ i lt. let i_lt : i < length feeds = (let nodes = s.core.nodes_are in omega arith) in
-          All-weaker (λ (x : Piece). IsHubPiece parts feeds p i (bases i) (chain i).inc x) (IsOfStore store) (of-store parts feeds p i (bases i) (chain i).inc store part count) (chain i).held (s.core.chains p i p_lt i_lt).held;
+    pub may-take : ((u : User) → (next_store h p).said u < 2 ^ 64) → (store : PartState) → store ≡ store_in h p Done → store.part ≡ p → store.parts ≡ story.parts → MayTake Next (held_at h.core.helds p) (next_ends h p) (nodes_in h) store
+    may-take few store is part count = record {
+      of_store = λ i lt. let i_lt : i < length story.feeds = (let nodes = s.core.nodes_are in omega arith) in
+          All-weaker (λ (x : Piece). IsHubPiece story.parts story.feeds p i (story.bases i) (chain i).inc x) (IsOfStore store) (of-store story.parts story.feeds p i (story.bases i) (chain i).inc store part count) (chain i).held (s.core.chains p i p_lt i_lt).held;
       said = λ u.
-          let few = few-said feeds vectors limits Next (do-not-fall Next (omega arith)) (λ i i_lt. inside Next i (omega arith) i_lt) u in
-          let here = next-part.said u in
-          let low = count-low (eqb (user_part parts u) p) (said (snapshot feeds vectors Next) u) in
+          let low = few u in
           let same = ap (λ (t : PartState). (nodes_applied Next (held_at h.core.helds p) (next_ends h p) (view_of t) (nodes_in h)).said u) is in
           omega arith;
     }
+
+    -- over feeds within the limits nobody is mentioned too often
+    pub said-few : AreWithinLimits story.feeds → (u : User) → (next_store h p).said u < 2 ^ 64
+    said-few limits u =
+        let few = few-said story.feeds story.vectors limits Next (do-not-fall Next (omega arith)) (λ i i_lt. inside Next i (omega arith) i_lt) u in
+        let here = next-part.said u in
+        let low = count-low (eqb (user_part story.parts u) p) (said (snapshot story.feeds story.vectors Next) u) in
+        omega arith
 
     module _ (new : HubView) (c : Commits h p new) (core : IsCore new.core) (versions : IsVersions new.versions) where
       p_in : p < length h.versions.committed
@@ -161,57 +167,63 @@ module _ (parts : ℕ) (feeds : List (List Record)) (lines : ℕ → List Stamp)
       held-is : (q : ℕ) → held_at new.core.helds q ≡ cond (eqb p q) c.core.0 (held_at h.core.helds q)
       held-is q = ap (λ (v : CoreView). held_at v.helds q) c.core.2 ∙ get_or-set h.core.helds p q c.core.0 [] (let count = s.core.parts_are in omega arith)
 
-      within_part : (q : ℕ) → q < parts → (b : Bool) → cond b Next (committed_in h q) ≤ cuts_in h
+      within_part : (q : ℕ) → q < story.parts → (b : Bool) → cond b Next (committed_in h q) ≤ cuts_in h
       within_part q q_lt true = omega arith
       within_part q q_lt false = s.stores.within q q_lt
 
-      floor_part : (q i : ℕ) → q < parts → i < length feeds → (b : Bool) → eqb p q ≡ b → (chain_at (cond b c.core.0 (held_at h.core.helds q)) i).floor ≡ vectors (cond b Next (committed_in h q)) i
-      floor_part q i q_lt i_lt true e = ap (λ (ch : ChainView). ch.floor) (c.core.1.each i (node-in parts feeds lines bases vectors h.core s.core p i p_lt i_lt)) ∙ end-is i i_lt
+      floor_part : (q i : ℕ) → q < story.parts → i < length story.feeds → (b : Bool) → eqb p q ≡ b → (chain_at (cond b c.core.0 (held_at h.core.helds q)) i).floor ≡ story.vectors (cond b Next (committed_in h q)) i
+      floor_part q i q_lt i_lt true e = ap (λ (ch : ChainView). ch.floor) (c.core.1.each i (node-in story h.core s.core p i p_lt i_lt)) ∙ end-is i i_lt
       floor_part q i q_lt i_lt false e = s.stores.floors q i q_lt i_lt
 
       -- a store that was there stays
-      stays : (q k : ℕ) → q < parts → first_in h ≤ k → k ≤ committed_in h q → IsPart parts q (snapshot feeds vectors k) (view_of (store_in new q k))
+      stays : (q k : ℕ) → q < story.parts → first_in h ≤ k → k ≤ committed_in h q → IsPart story.parts q (snapshot story.feeds story.vectors k) (view_of (store_in new q k))
       stays q k q_lt from to =
-          subst (λ (t : PartState). IsPart parts q (snapshot feeds vectors k) (view_of t)) (sym (c.versions.stays q k (let count = s.stores.parts_are in omega arith) from to)) (s.stores.stores q k q_lt from to)
+          subst (λ (t : PartState). IsPart story.parts q (snapshot story.feeds story.vectors k) (view_of t)) (sym (c.versions.stays q k (let count = s.stores.parts_are in omega arith) from to)) (s.stores.stores q k q_lt from to)
 
       -- and the new one is the epoch's
-      put : IsPart parts p (snapshot feeds vectors Next) (view_of (store_in new p Next))
+      put : IsPart story.parts p (snapshot story.feeds story.vectors Next) (view_of (store_in new p Next))
       put =
-          subst (λ (t : PartState). IsPart parts p (snapshot feeds vectors Next) (view_of t)) (sym c.versions.put)
-          (subst (λ (v : PartView). IsPart parts p (snapshot feeds vectors Next) v) (sym c.applied) next-part)
+          subst (λ (t : PartState). IsPart story.parts p (snapshot story.feeds story.vectors Next) (view_of t)) (sym c.versions.put)
+          (subst (λ (v : PartView). IsPart story.parts p (snapshot story.feeds story.vectors Next) v) (sym c.applied) next-part)
 
-      store_part : (q k : ℕ) → q < parts → first_in h ≤ k → (b : Bool) → eqb p q ≡ b → k ≤ cond b Next (committed_in h q) → IsPart parts q (snapshot feeds vectors k) (view_of (store_in new q k))
+      store_part : (q k : ℕ) → q < story.parts → first_in h ≤ k → (b : Bool) → eqb p q ≡ b → k ≤ cond b Next (committed_in h q) → IsPart story.parts q (snapshot story.feeds story.vectors k) (view_of (store_in new q k))
       store_part q k q_lt from true e to =
-          subst (λ (x : ℕ). IsPart parts x (snapshot feeds vectors k) (view_of (store_in new x k))) (eqb-true p q e)
+          subst (λ (x : ℕ). IsPart story.parts x (snapshot story.feeds story.vectors k) (view_of (store_in new x k))) (eqb-true p q e)
           (⊎_elim (λ (low : k < Next). stays p k p_lt from (omega arith))
-          (λ (high : Next ≤ k). let same : Next ≡ k = omega arith in subst (λ (j : ℕ). IsPart parts p (snapshot feeds vectors j) (view_of (store_in new p j))) same put)
+          (λ (high : Next ≤ k). let same : Next ≡ k = omega arith in subst (λ (j : ℕ). IsPart story.parts p (snapshot story.feeds story.vectors j) (view_of (store_in new p j))) same put)
           (cases_lt k Next))
       store_part q k q_lt from false e to = stays q k q_lt from to
 
-      pub commit-stands : HubStands parts feeds lines bases vectors new
+      pub commit-stands : HubStands story new
       commit-stands = record {
-        core = forget-stands parts feeds lines bases vectors h.core s.core p (next_ends h p) new.core p_lt may-forget c.core core;
+        core = forget-stands story h.core s.core p (next_ends h p) new.core p_lt may-forget c.core core;
         stores = record {
           versions = versions;
           parts_are = ap (λ (xs : List ℕ). length xs) c.versions.committed ∙ (length-set h.versions.committed p Next ∙ s.stores.parts_are);
           within = λ q q_lt. let is = committed-is q in let le = within_part q q_lt (eqb p q) in let cuts = cuts-are in omega arith;
-          floors = λ q i q_lt i_lt. subst (λ (n : ℕ). (chain_in new q i).floor ≡ vectors n i) (sym (committed-is q))
-              (subst (λ (held : List ChainView). (chain_at held i).floor ≡ vectors (cond (eqb p q) Next (committed_in h q)) i) (sym (held-is q)) (floor_part q i q_lt i_lt (eqb p q) refl));
+          floors = λ q i q_lt i_lt. subst (λ (n : ℕ). (chain_in new q i).floor ≡ story.vectors n i) (sym (committed-is q))
+              (subst (λ (held : List ChainView). (chain_at held i).floor ≡ story.vectors (cond (eqb p q) Next (committed_in h q)) i) (sym (held-is q)) (floor_part q i q_lt i_lt (eqb p q) refl));
           stores = λ q k q_lt from to. store_part q k q_lt (subst (λ (n : ℕ). n ≤ k) c.versions.first from) (eqb p q) refl (subst (λ (n : ℕ). k ≤ n) (committed-is q) to);
         };
       }
 
--- what a commit asks, of a hub that stands for something
-pub may-apply : (h : HubView) (p last : ℕ) (store : PartState) → p < parts_in h → last ≡ committed_in h p → last < cuts_in h → HasSmallFeeds h → store ≡ store_in h p (committed_in h p) → store.part ≡ p → store.parts ≡ length h.versions.committed →
-    MayTake (last + 1) (held_at h.core.helds p) (vector_at h.core.table.vectors (last + 1)) (nodes_in h) store
-may-apply h p last store lt is more (parts, feeds, lines, bases, vectors, s, limits) same part count =
-    subst (λ (n : ℕ). MayTake (n + 1) (held_at h.core.helds p) (vector_at h.core.table.vectors (n + 1)) (nodes_in h) store) (sym is)
-    (may-take parts feeds lines bases vectors h s p (let are = s.core.parts_are in omega arith) (omega arith) limits store same part (count ∙ s.stores.parts_are))
+pub may-commit : MayCommitLaw
+may-commit h p (story, s, limits) lt more u = said-few story h s p (let are = s.core.parts_are in omega arith) more limits u
 
-pub may-drop : (h : HubView) (p last : ℕ) → p < parts_in h → last ≡ committed_in h p → last < cuts_in h → HasStands h → (i : ℕ) → i < nodes_in h → IsPlace (chain_in h p i) (end_at (vector_at h.core.table.vectors (last + 1)) i).to
-may-drop h p last lt is more (parts, feeds, lines, bases, vectors, s) i i_lt =
+pub few-law : FewVerticesLaw
+few-law story h k s limits le = few-vertices story.feeds story.vectors limits k (do-not-fall story h s k le) (λ i i_lt. inside story h s k i le i_lt)
+
+-- what a commit asks, of a hub that stands for something
+pub may-apply : (h : HubView) (p last : ℕ) (store : PartState) → p < parts_in h → last ≡ committed_in h p → last < cuts_in h → HasStory h → MayCommit h p → store ≡ store_in h p (committed_in h p) → store.part ≡ p → store.parts ≡ length h.versions.committed →
+    MayTake (last + 1) (held_at h.core.helds p) (vector_at h.core.table.vectors (last + 1)) (nodes_in h) store
+may-apply h p last store lt is more (story, s) may same part count =
+    subst (λ (n : ℕ). MayTake (n + 1) (held_at h.core.helds p) (vector_at h.core.table.vectors (n + 1)) (nodes_in h) store) (sym is)
+    (may-take story h s p (let are = s.core.parts_are in omega arith) (omega arith) (may (omega arith)) store same part (count ∙ s.stores.parts_are))
+
+pub may-drop : (h : HubView) (p last : ℕ) → p < parts_in h → last ≡ committed_in h p → last < cuts_in h → HasStory h → (i : ℕ) → i < nodes_in h → IsPlace (chain_in h p i) (end_at (vector_at h.core.table.vectors (last + 1)) i).to
+may-drop h p last lt is more (story, s) i i_lt =
     subst (λ (n : ℕ). IsPlace (chain_in h p i) (end_at (vector_at h.core.table.vectors (n + 1)) i).to) (sym is)
-    (may-forget parts feeds lines bases vectors h s p (let are = s.core.parts_are in omega arith) (omega arith) i (let nodes = s.core.nodes_are in omega arith)).place
+    (may-forget story h s p (let are = s.core.parts_are in omega arith) (omega arith) i (let nodes = s.core.nodes_are in omega arith)).place
 
 pub commits-of : (h : HubView) (p last : ℕ) (store made : PartState) (core : CoreView) (versions : VersionsView) → last ≡ committed_in h p → CoreForgets h.core p (vector_at h.core.table.vectors (last + 1)) core →
     view_of made ≡ nodes_applied (last + 1) (held_at h.core.helds p) (vector_at h.core.table.vectors (last + 1)) (view_of store) (nodes_in h) → store ≡ store_in h p (committed_in h p) → PutsNext h.versions p made versions → Commits h p (record { core = core; versions = versions })
@@ -224,20 +236,20 @@ commits-of h p last store made core versions is forgets applied same puts = reco
 }
 
 pub commit-keeps : (old : HubView) (p : ℕ) (new : HubView) → p < parts_in old → committed_in old p < cuts_in old → Commits old p new → IsCore new.core → IsVersions new.versions → HubKeeps old new
-commit-keeps old p new lt more c core versions parts feeds lines bases vectors s =
-    commit-stands parts feeds lines bases vectors old s p (let are = s.core.parts_are in omega arith) more new c core versions
+commit-keeps old p new lt more c core versions story s =
+    commit-stands story old s p (let are = s.core.parts_are in omega arith) more new c core versions
 
 -- The snapshot of an epoch that is kept is the graph of all records within its vector.
 pub kept-snapshot : (h : HubView) (k : ℕ) → KeepsEpoch h k → AreSnapshot h k (snap_in h k)
-kept-snapshot h k kept parts feeds lines bases vectors s =
+kept-snapshot h k kept story s =
     let some = s.stores.versions.some in
     let are = s.stores.parts_are in
     let whole = kept.whole 0 some in
     let there = s.stores.versions.there 0 some in
     let since = kept.since in
-    let count : length (snap_in h k) ≡ parts = s.stores.versions.count (k - first_in h) (omega arith) ∙ are in
-    join-law (snap_in h k) (snapshot feeds vectors k) (s.stores.versions.shape (k - first_in h) (omega arith))
-    (λ p lt. subst (λ (n : ℕ). IsPart n p (snapshot feeds vectors k) (view_of (store_in h p k))) (sym count) (s.stores.stores p k (omega arith) since (kept.whole p (omega arith))))
+    let count : length (snap_in h k) ≡ story.parts = s.stores.versions.count (k - first_in h) (omega arith) ∙ are in
+    join-law (snap_in h k) (snapshot story.feeds story.vectors k) (s.stores.versions.shape (k - first_in h) (omega arith))
+    (λ p lt. subst (λ (n : ℕ). IsPart n p (snapshot story.feeds story.vectors k) (view_of (store_in h p k))) (sym count) (s.stores.stores p k (omega arith) since (kept.whole p (omega arith))))
 
 -- letting go of epochs leaves the stores of the later ones
 released-store : (v : VersionsView) (k p j : ℕ) → max v.first k ≤ j → store_at (released v k) p j ≡ store_at v p j
@@ -246,14 +258,14 @@ released-store v k p j le =
     ap (λ (stores : List PartState). state_at stores p) (get_or-drop (k - v.first) v.snaps (j - max v.first k) [] ∙ ap (λ (n : ℕ). get_or v.snaps n []) same)
 
 pub release-keeps : (old : HubView) (k : ℕ) (versions : VersionsView) → versions ≡ released old.versions k → IsVersions versions → HubKeeps old (record old { versions = versions })
-release-keeps old k versions is shape parts feeds lines bases vectors s =
-    subst (λ (v : VersionsView). HubStands parts feeds lines bases vectors (record old { versions = v })) (sym is) (record {
+release-keeps old k versions is shape story s =
+    subst (λ (v : VersionsView). HubStands story (record old { versions = v })) (sym is) (record {
       core = s.core;
       stores = record {
         versions = subst IsVersions is shape;
         parts_are = s.stores.parts_are;
         within = s.stores.within;
         floors = s.stores.floors;
-        stores = λ p j p_lt from to. subst (λ (t : PartState). IsPart parts p (snapshot feeds vectors j) (view_of t)) (sym (released-store old.versions k p j from)) (s.stores.stores p j p_lt (omega arith) to);
+        stores = λ p j p_lt from to. subst (λ (t : PartState). IsPart story.parts p (snapshot story.feeds story.vectors j) (view_of t)) (sym (released-store old.versions k p j from)) (s.stores.stores p j p_lt (omega arith) to);
       };
     })

@@ -9,9 +9,9 @@ use Rattle.kin_ids.specs.declared.ops.Record.TheVariants as record_kind
 use Rattle.kin_ids.specs.Operations.{part_ops}
 use Rattle.kin_ids.specs.Sizes.{IsSmall}
 use Rattle.kin_hub.specs.Hubs.{HubView}
-use Rattle.kin_hub.specs.Stands.{HubStands}
+use Rattle.kin_hub.specs.Stands.{Story, HubStands}
 use Rattle.kin_hub.specs.Goes.{IsKnown, Knows, HubPlaces}
-use Rattle.kin_hub.specs.Opens.{no_lines, first_bases, no_vectors}
+use Rattle.kin_hub.specs.Opens.{first_story}
 use Rattle.kin_hub.specs.Commits.{HasSmallFeeds}
 
 -- node 0 has the follow, and node 1 nothing
@@ -21,9 +21,12 @@ follow = record_kind.Follow (record { 0 = 1 }) (record { 0 = 2 }) ∷ []
 abbrev pub feeds : List (List Record)
 feeds = follow ∷ [] ∷ []
 
--- the hub stands for nothing agreed yet
+-- nothing is agreed yet
+abbrev pub story : Story
+story = first_story feeds 2
+
 abbrev pub Stands : HubView → Type 0
-Stands h = HubStands 2 feeds no_lines first_bases no_vectors h
+Stands h = HubStands story h
 
 abbrev pub half : PartId → Op → Piece
 half p o = record {
@@ -34,25 +37,25 @@ half p o = record {
 }
 
 module _ (h : HubView) (p : PartId) (o : Op) (x : Piece) (is : x ≡ half p o) (exact : (half p o).ops ≡ part_ops 2 p.0 0 follow) where
-  known : IsKnown 2 feeds first_bases h x
-  known = subst (IsKnown 2 feeds first_bases h) (sym is) (record {
+  known : IsKnown story h x
+  known = subst (IsKnown story h) (sym is) (record {
     fits = record { formed = record { after_base = omega arith; some = omega arith; few = omega arith }; inside = omega arith; exact = exact };
     inc = omega arith;
     base = refl;
   })
 
   pub knows : Stands h → Knows h x
-  knows s = (2, feeds, no_lines, first_bases, no_vectors, s, known)
+  knows s = (story, s, known)
 
   pub places : (new : HubView) → HubPlaces h x new → Stands h → Stands new
-  places new goes s = goes 2 feeds no_lines first_bases no_vectors known s
+  places new goes s = goes story known s
 
 small : All (λ (feed : List Record). All IsSmall feed) feeds
 small = All-cons (λ (feed : List Record). All IsSmall feed) follow ([] ∷ []) (All-cons IsSmall (record_kind.Follow (record { 0 = 1 }) (record { 0 = 2 })) [] tt (All-nil IsSmall))
     (All-cons (λ (feed : List Record). All IsSmall feed) [] [] (All-nil IsSmall) (All-nil (λ (feed : List Record). All IsSmall feed)))
 
 pub small-feeds : (h : HubView) → Stands h → HasSmallFeeds h
-small-feeds h s = (2, feeds, no_lines, first_bases, no_vectors, s, record { records = omega arith; small = small })
+small-feeds h s = (story, s, record { records = omega arith; small = small })
 
 pub below-two : (at : ℕ → ℕ) (k : ℕ) → k ≤ at 0 → k ≤ at 1 → (p : ℕ) → p < 2 → k ≤ at p
 below-two at k first second zero lt = first

@@ -15,7 +15,7 @@ use Rattle.kin_table.specs.Vectors.{end_at}
 use Rattle.kin_table.specs.Tables.{RowView, agreed_of, inc_of, cuts_of, row_at}
 use Rattle.kin_hub.specs.Cores.{CoreView, IsCore, chain_of}
 use Rattle.kin_hub.specs.Lines.{IsHubPiece, IsHubChain, IsHubRow}
-use Rattle.kin_hub.specs.Stands.{CoreStands}
+use Rattle.kin_hub.specs.Stands.{Story, CoreStands}
 use Rattle.kin_hub.specs.Commits.{CoreForgets}
 use Rattle.kin_hub.proofs.Holding.{ChainFor, RowFor, node-in, held-stands}
 
@@ -50,19 +50,19 @@ pub record MayForget (c : CoreView) (vectors : ℕ → ℕ → ℕ) (p i to : �
   pub agreed : to ≤ agreed_of c.table i
   pub cut : to ≤ vectors (cuts_of c.table) i
 
-pub forget-stands : (parts : ℕ) (feeds : List (List Record)) (lines : ℕ → List Stamp) (bases : ℕ → List ℕ) (vectors : ℕ → ℕ → ℕ) (old : CoreView) (s : CoreStands parts feeds lines bases vectors old) (p : ℕ) (ends : List End) (new : CoreView) → p < parts →
-    ((i : ℕ) → i < length feeds → MayForget old vectors p i (end_at ends i).to) → CoreForgets old p ends new → IsCore new → CoreStands parts feeds lines bases vectors new
-forget-stands parts feeds lines bases vectors old s p ends new p_lt may f core =
-    subst (CoreStands parts feeds lines bases vectors) (sym f.2)
-    (held-stands parts feeds lines bases vectors old s p p_lt f.0
-    (λ i i_lt. subst (ChainFor parts feeds lines bases vectors old s p i) (sym (is i i_lt)) (forgets-chain parts feeds p i (lines i) (bases i) (inc_of old.table i) (agreed_of old.table i) (chain_of old p i) (to i) (s.chains p i p_lt i_lt) (may i i_lt).place (may i i_lt).agreed))
-    (λ i i_lt r. subst (RowFor parts feeds lines bases vectors old s p i) (sym (is i i_lt))
-    (forgets-row parts feeds p i (lines i) (bases i) (inc_of old.table i) (agreed_of old.table i) (chain_of old p i) (to i) (s.chains p i p_lt i_lt) (may i i_lt).place (may i i_lt).agreed (row_at old.table.rows p) (s.rows p i p_lt i_lt r)))
-    (λ i i_lt. subst (λ (ch : ChainView). ch.floor ≤ vectors (cuts_of old.table) i) (sym (is i i_lt)) (may i i_lt).cut)
+pub forget-stands : (story : Story) (old : CoreView) (s : CoreStands story old) (p : ℕ) (ends : List End) (new : CoreView) → p < story.parts →
+    ((i : ℕ) → i < length story.feeds → MayForget old story.vectors p i (end_at ends i).to) → CoreForgets old p ends new → IsCore new → CoreStands story new
+forget-stands story old s p ends new p_lt may f core =
+    subst (CoreStands story) (sym f.2)
+    (held-stands story old s p p_lt f.0
+    (λ i i_lt. subst (ChainFor story old s p i) (sym (is i i_lt)) (forgets-chain story.parts story.feeds p i (story.lines i) (story.bases i) (inc_of old.table i) (agreed_of old.table i) (chain_of old p i) (to i) (s.chains p i p_lt i_lt) (may i i_lt).place (may i i_lt).agreed))
+    (λ i i_lt r. subst (RowFor story old s p i) (sym (is i i_lt))
+    (forgets-row story.parts story.feeds p i (story.lines i) (story.bases i) (inc_of old.table i) (agreed_of old.table i) (chain_of old p i) (to i) (s.chains p i p_lt i_lt) (may i i_lt).place (may i i_lt).agreed (row_at old.table.rows p) (s.rows p i p_lt i_lt r)))
+    (λ i i_lt. subst (λ (ch : ChainView). ch.floor ≤ story.vectors (cuts_of old.table) i) (sym (is i i_lt)) (may i i_lt).cut)
     (subst IsCore f.2 core))
   where
     to : ℕ → ℕ
     to i = (end_at ends i).to
 
-    is : (i : ℕ) → i < length feeds → chain_at f.0 i ≡ chain_past (chain_of old p i) (end_at ends i).to
-    is i i_lt = f.1.each i (node-in parts feeds lines bases vectors old s p i p_lt i_lt)
+    is : (i : ℕ) → i < length story.feeds → chain_at f.0 i ≡ chain_past (chain_of old p i) (end_at ends i).to
+    is i i_lt = f.1.each i (node-in story old s p i p_lt i_lt)

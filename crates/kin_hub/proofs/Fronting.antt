@@ -8,9 +8,11 @@ use Rattle.std.proofs.lemmas.List.Elements.{All-head, All-tail, All-weaker}
 use Rattle.kin_ids.specs.declared.stamps.Stamp.{Stamp}
 use Rattle.kin_ids.specs.declared.ops.Piece.{Piece}
 use Rattle.kin_ids.specs.Lines.{IsEnd, stamps_of}
-use Rattle.kin_ids.specs.Fair.{Turn, turn, row, rows, longest, size, records, enough, fair, last_end}
-use Rattle.kin_ids.proofs.Rounds.{enough-none, first_within}
-use Rattle.kin_ids.proofs.Turns.{fair-end, fair-alike}
+use Rattle.kin_ids.specs.Fair.{Waiting, size, records, enough, fair, last_end}
+use Rattle.kin_ids.specs.Rounds.{waiting_at, row, rows, longest}
+use Rattle.kin_ids.proofs.Rounds.{first_within}
+use Rattle.kin_ids.proofs.RowOrder.{rows-law}
+use Rattle.kin_ids.proofs.Turns.{enough-none, fair-end, fair-alike}
 use Rattle.kin_table.specs.Ends.{inc_at, end_of_cut}
 use Rattle.kin_table.specs.Lists.{list_at}
 use Rattle.kin_table.specs.Tables.{TableView, last_of}
@@ -20,11 +22,11 @@ use Rattle.kin_table.specs.declared.answers.CutRefused.{CutRefused}
 use Rattle.kin_hub.specs.Cuts.{HasRecords, front_for}
 
 -- what is beyond enough isn't taken
-enough-front : (n : ℕ) (xs ys : List Turn) → n ≤ records xs → enough n (xs ++ ys) ≡ enough n xs
+enough-front : (n : ℕ) (xs ys : List Waiting) → n ≤ records xs → enough n (xs ++ ys) ≡ enough n xs
 enough-front n [] ys le = enough-none n ys (omega arith)
-enough-front n (t ∷ ts) ys le = ap (λ (rest : List Turn). cond (eqb n 0) [] (t ∷ rest)) (enough-front (n - size t.stamp) ts ys (omega arith))
+enough-front n (t ∷ ts) ys le = ap (λ (rest : List Waiting). cond (eqb n 0) [] (t ∷ rest)) (enough-front (n - size t.stamp) ts ys (omega arith))
 
-records-append : (xs ys : List Turn) → records (xs ++ ys) ≡ records xs + records ys
+records-append : (xs ys : List Waiting) → records (xs ++ ys) ≡ records xs + records ys
 records-append [] ys = omega arith
 records-append (t ∷ ts) ys = let ih = records-append ts ys in omega arith
 
@@ -53,7 +55,7 @@ module _ (pending : ℕ → List Stamp) (n : ℕ) where
 
   row-take : (r : ℕ) (is : List ℕ) → r < n → row Front r is ≡ row pending r is
   row-take r [] lt = refl
-  row-take r (i ∷ is) lt = ap (λ o. turn i o ++ row Front r is) (get-take (pending i) n r lt) ∙ ap (λ ts. turn i (slice_get (pending i) r) ++ ts) (row-take r is lt)
+  row-take r (i ∷ is) lt = ap (λ o. waiting_at i r o ++ row Front r is) (get-take (pending i) n r lt) ∙ ap (λ ts. waiting_at i r (slice_get (pending i) r) ++ ts) (row-take r is lt)
 
   rows-take : (is : List ℕ) (r k : ℕ) → r + k ≤ n → rows Front is r k ≡ rows pending is r k
   rows-take is r zero le = refl
@@ -65,16 +67,16 @@ module _ (pending : ℕ → List Stamp) (n : ℕ) where
 
 -- a row that has a transaction has a record
 module _ (pending : ℕ → List Stamp) where
-  turn-some : (i : ℕ) (ss : List Stamp) (r : ℕ) → All HasRecords ss → r < length ss → 1 ≤ records (turn i (slice_get ss r))
-  turn-some i [] r all lt = absurd (omega arith)
-  turn-some i (s ∷ ss) zero all lt = let some : s.from < s.to = All-head HasRecords s ss all in omega arith
-  turn-some i (s ∷ ss) (suc r) all lt = turn-some i ss r (All-tail HasRecords s ss all) (omega arith)
+  turn-some : (i q : ℕ) (ss : List Stamp) (r : ℕ) → All HasRecords ss → r < length ss → 1 ≤ records (waiting_at i q (slice_get ss r))
+  turn-some i q [] r all lt = absurd (omega arith)
+  turn-some i q (s ∷ ss) zero all lt = let some : s.from < s.to = All-head HasRecords s ss all in omega arith
+  turn-some i q (s ∷ ss) (suc r) all lt = turn-some i q ss r (All-tail HasRecords s ss all) (omega arith)
 
   row-some : (is : List ℕ) (r : ℕ) → All (λ (i : ℕ). All HasRecords (pending i)) is → r < longest pending is → 1 ≤ records (row pending r is)
   row-some [] r all lt = absurd (omega arith)
   row-some (i ∷ is) r all lt =
-      let both = records-append (turn i (slice_get (pending i) r)) (row pending r is) in
-      ⊎_elim (λ (here : r < length (pending i)). let some = turn-some i (pending i) r (All-head (λ (i : ℕ). All HasRecords (pending i)) i is all) here in omega arith)
+      let both = records-append (waiting_at i r (slice_get (pending i) r)) (row pending r is) in
+      ⊎_elim (λ (here : r < length (pending i)). let some = turn-some i r (pending i) r (All-head (λ (i : ℕ). All HasRecords (pending i)) i is all) here in omega arith)
       (λ (past : length (pending i) ≤ r). let rest = row-some is r (All-tail (λ (i : ℕ). All HasRecords (pending i)) i is all) (omega arith) in omega arith)
       (cases_lt r (length (pending i)))
 
@@ -104,7 +106,8 @@ module _ (pending : ℕ → List Stamp) where
 
 pub fair-take : (prev : ℕ → ℕ) (pending : ℕ → List Stamp) (nodes n i : ℕ) → All (λ (i : ℕ). All HasRecords (pending i)) (range_with_len 0 nodes) →
     fair prev (λ j. take n (pending j)) nodes n i ≡ fair prev pending nodes n i
-fair-take prev pending nodes n i all = ap (last_end (prev i) i) (enough-take pending n (range_with_len 0 nodes) all)
+fair-take prev pending nodes n i all = ap (last_end (prev i) i)
+    (ap (enough n) (rows-law (λ j. take n (pending j)) nodes) ∙ (enough-take pending n (range_with_len 0 nodes) all ∙ ap (enough n) (sym (rows-law pending nodes))))
 
 -- the incarnation at an end of the front
 inc_at-front : (at v : ℕ) (xs ys : List Stamp) → IsEnd at xs v → v ≢ at → inc_at (xs ++ ys) v ≡ inc_at xs v

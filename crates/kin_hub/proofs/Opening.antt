@@ -13,7 +13,7 @@ use Rattle.kin_table.specs.Tables.{RowView, no_report, row_at, first_table, agre
 use Rattle.kin_hub.specs.Cores.{IsCore, chain_of}
 use Rattle.kin_hub.specs.Lines.{base_of, IsHubLine, IsHubPiece, IsHubChain, IsHubEnd}
 use Rattle.kin_hub.specs.Stands.{CoreStands}
-use Rattle.kin_hub.specs.Opens.{first_core, no_lines, first_bases, no_vectors}
+use Rattle.kin_hub.specs.Opens.{first_core, first_story}
 
 same : {X : Type 0} (n i : ℕ) (x : X) → get_or (replicate n x) i x ≡ x
 same zero i x = refl
@@ -72,7 +72,7 @@ module _ (nodes parts : ℕ) (feeds : List (List Record)) (same_count : length f
   end-is zero i lt = same nodes i no_end
   end-is (suc k) i lt = absurd (omega arith)
 
-  pub opens-stands : IsCore (first_core nodes parts) → CoreStands parts feeds no_lines first_bases no_vectors (first_core nodes parts)
+  pub opens-stands : IsCore (first_core nodes parts) → CoreStands (first_story feeds parts) (first_core nodes parts)
   opens-stands core = record {
     core = core;
     parts_are = length-replicate parts (replicate nodes no_chain);

@@ -14,7 +14,7 @@ use Rattle.kin_table.specs.Ends.{inc_at}
 use Rattle.kin_table.specs.Tables.{row_at, agreed_of, inc_of, inc_in, reach_of}
 use Rattle.kin_hub.specs.Fronts.{common_of}
 use Rattle.kin_hub.specs.Cores.{CoreView, chain_of, past_in, least_reach, ready_run, ready}
-use Rattle.kin_hub.specs.Stands.{CoreStands}
+use Rattle.kin_hub.specs.Stands.{Story, CoreStands}
 use Rattle.kin_hub.proofs.Begins.{Begins, begins-through, begins-upto, common_of-each, upto-within, has-left, has-right}
 use Rattle.kin_hub.proofs.Fronts.{upto_over}
 
@@ -60,7 +60,7 @@ piece-of P [] s all h = absurd (false≢true h)
 piece-of P (p ∷ ps) s all h = ⊎_elim (λ (e : same_stamp p.stamp s ≡ true). record { piece = p; stamp = same_from_test p.stamp s e; holds = All-head P p ps all })
     (λ (k : has (stamps_of ps) s ≡ true). piece-of P ps s (All-tail P p ps all) k) (or_cases _ _ h)
 
-module _ (parts : ℕ) (feeds : List (List Record)) (lines : ℕ → List Stamp) (bases : ℕ → List ℕ) (vectors : ℕ → ℕ → ℕ) (old : CoreView) (s : CoreStands parts feeds lines bases vectors old) (j : ℕ) (j_lt : j < length feeds) where
+module _ (story : Story) (old : CoreView) (s : CoreStands story old) (j : ℕ) (j_lt : j < length story.feeds) where
   abbrev At : ℕ
   At = agreed_of old.table j
 
@@ -71,7 +71,7 @@ module _ (parts : ℕ) (feeds : List (List Record)) (lines : ℕ → List Stamp)
   stamps p = stamps_of (chain_of old p j).held
 
   -- each chain goes on with the run
-  pub run-begins : (p : ℕ) → p < parts → Begins Run (past At (stamps p))
+  pub run-begins : (p : ℕ) → p < story.parts → Begins Run (past At (stamps p))
   run-begins p p_lt =
       let lists = past_in old.helds At j in
       let count = s.parts_are in
@@ -79,26 +79,26 @@ module _ (parts : ℕ) (feeds : List (List Record)) (lines : ℕ → List Stamp)
       subst (Begins Run) (get_or-map (λ (held : List ChainView). past At (stamps_of (chain_at held j).held)) old.helds p [] [] (omega arith))
       (begins-through Run (common_of lists) (get_or lists p []) (begins-upto (least_reach old j) (common_of lists)) (common_of-each lists p (omega arith)))
 
-  pub run-line : 0 < parts → IsLine At Run
+  pub run-line : 0 < story.parts → IsLine At Run
   run-line some =
       let ch = s.chains 0 j some j_lt in
       let b = run-begins 0 some in
       IsLine-front At Run b.rest (subst (IsLine At) b.is (past-line (chain_of old 0 j).floor At (stamps 0) ch.run.0 ch.ends))
 
-  pub run-has : (p : ℕ) → p < parts → (x : Stamp) → has Run x ≡ true → has (stamps p) x ≡ true
+  pub run-has : (p : ℕ) → p < story.parts → (x : Stamp) → has Run x ≡ true → has (stamps p) x ≡ true
   run-has p p_lt x h =
       let b = run-begins p p_lt in
       subst (λ ys. has ys x ≡ true) (upto-past At (stamps p)) (has-right (upto At (stamps p)) (past At (stamps p)) x (subst (λ ys. has ys x ≡ true) (sym b.is) (has-left Run b.rest x h)))
 
-  pub rises : 0 < parts → At ≤ ready old j
+  pub rises : 0 < story.parts → At ≤ ready old j
   rises some = line_grows At Run (run-line some)
 
   -- a partition's reach is at or past the agreed position
-  pub reach-from : (p : ℕ) → p < parts → At ≤ reach_of old.table p j
+  pub reach-from : (p : ℕ) → p < story.parts → At ≤ reach_of old.table p j
   reach-from p p_lt = go ((row_at old.table.rows p).reported && eqb (inc_in (row_at old.table.rows p).incs j) (inc_of old.table j)) refl
     where
       go : (b : Bool) → ((row_at old.table.rows p).reported && eqb (inc_in (row_at old.table.rows p).incs j) (inc_of old.table j)) ≡ b → At ≤ reach_of old.table p j
-      go true e = let parts' = and_parts _ _ e in rw e ((s.rows p j p_lt j_lt parts'.0).top (eqb-true _ _ parts'.1))
+      go true e = let both = and_parts _ _ e in rw e ((s.rows p j p_lt j_lt both.0).top (eqb-true _ _ both.1))
       go false e = rw e (omega arith)
 
   -- where the position moved, a row is of the last incarnation and reaches it
@@ -107,7 +107,7 @@ module _ (parts : ℕ) (feeds : List (List Record)) (lines : ℕ → List Stamp)
     pub inc : inc_in (row_at old.table.rows p).incs j ≡ inc_of old.table j
     pub top : ready old j ≤ get_or (row_at old.table.rows p).tops j 0
 
-  pub within : (p : ℕ) → p < parts → (ready old j ≡ At) ⊎ (ready old j ≤ reach_of old.table p j)
+  pub within : (p : ℕ) → p < story.parts → (ready old j ≡ At) ⊎ (ready old j ≤ reach_of old.table p j)
   within p p_lt = ⊎_elim (λ (e : ready old j ≡ At). inl e)
       (λ (le : ready old j ≤ least_reach old j).
       let rows = s.core.parts in
@@ -116,14 +116,14 @@ module _ (parts : ℕ) (feeds : List (List Record)) (lines : ℕ → List Stamp)
       inr (omega arith))
       (upto-within At (least_reach old j) (common_of (past_in old.helds At j)))
 
-  pub reaches : (p : ℕ) → p < parts → (ready old j ≡ At) ⊎ Reaches p
+  pub reaches : (p : ℕ) → p < story.parts → (ready old j ≡ At) ⊎ Reaches p
   reaches p p_lt = ⊎_elim (λ (e : ready old j ≡ At). inl e)
       (λ (le : ready old j ≤ reach_of old.table p j). go le ((row_at old.table.rows p).reported && eqb (inc_in (row_at old.table.rows p).incs j) (inc_of old.table j)) refl)
       (within p p_lt)
     where
       go : ready old j ≤ reach_of old.table p j → (b : Bool) → ((row_at old.table.rows p).reported && eqb (inc_in (row_at old.table.rows p).incs j) (inc_of old.table j)) ≡ b → (ready old j ≡ At) ⊎ Reaches p
-      go le true e = let parts' = and_parts _ _ e in inr (record { reported = parts'.0; inc = eqb-true _ _ parts'.1; top = rw e at le })
+      go le true e = let both = and_parts _ _ e in inr (record { reported = both.0; inc = eqb-true _ _ both.1; top = rw e at le })
       go le false e = let low : ready old j ≤ At = rw e at le in let up = rises (omega arith) in inl (omega arith)
 
-  pub at_most : (p : ℕ) → p < parts → ready old j ≤ reach_of old.table p j
+  pub at_most : (p : ℕ) → p < story.parts → ready old j ≤ reach_of old.table p j
   at_most p p_lt = ⊎_elim (λ (e : ready old j ≡ At). let low = reach-from p p_lt in omega arith) (λ (le : ready old j ≤ reach_of old.table p j). le) (within p p_lt)

@@ -14,8 +14,8 @@ use Rattle.kin_held.specs.Chains.{ChainView}
 use Rattle.kin_table.specs.Tables.{RowView, row_at, agreed_of, inc_of}
 use Rattle.kin_hub.specs.Cores.{CoreView, IsCore, chain_of, with_seal}
 use Rattle.kin_hub.specs.Lines.{base_of, IsHubStamp, IsHubLine, IsHubPiece, IsHubChain, IsHubRow}
-use Rattle.kin_hub.specs.Stands.{CoreStands}
-use Rattle.kin_hub.specs.Goes.{based}
+use Rattle.kin_hub.specs.Stands.{Story, CoreStands}
+use Rattle.kin_hub.specs.Goes.{based, sealed_story}
 use Rattle.kin_ids.proofs.Rounds.{get_or-set}
 
 of_choice : (b : Bool) (x y : Inc) → (cond b x y).0 ≡ cond b x.0 y.0
@@ -110,36 +110,36 @@ module _ (len i : ℕ) (line : List Stamp) (bases : List ℕ) (inc agreed : ℕ)
         let low = r.kept in
         record { kept = r.kept; top = λ e. absurd (omega arith); place = λ e. absurd (omega arith) }
 
-module _ (parts : ℕ) (feeds : List (List Record)) (lines : ℕ → List Stamp) (bases : ℕ → List ℕ) (vectors : ℕ → ℕ → ℕ) (old : CoreView) (s : CoreStands parts feeds lines bases vectors old) (j : ℕ) (j_lt : j < length feeds) where
+module _ (story : Story) (old : CoreView) (s : CoreStands story old) (j : ℕ) (j_lt : j < length story.feeds) where
   inc_at : (i : ℕ) → inc_of (with_seal old j).table i ≡ cond (eqb j i) (inc_of old.table j + 1) (inc_of old.table i)
   inc_at i = ap (λ (c : Inc). c.0) (get_or-set old.table.incs j i (record { 0 = inc_of old.table j + 1 }) (record { 0 = 0 }) (let incs = s.core.table.incs in let nodes = s.nodes_are in omega arith))
       ∙ of_choice (eqb j i) (record { 0 = inc_of old.table j + 1 }) (get_or old.table.incs i (record { 0 = 0 }))
 
-  line_at : (i : ℕ) → i < length feeds → (b : Bool) → eqb j i ≡ b →
-      IsHubLine (length (feed_at feeds i)) i (lines i) (cond b (bases i ++ agreed_of old.table j ∷ []) (bases i)) (cond b (inc_of old.table j + 1) (inc_of old.table i)) (agreed_of old.table i)
-  line_at i i_lt true e = subst (λ (k : ℕ). IsHubLine (length (feed_at feeds i)) i (lines i) (bases i ++ agreed_of old.table k ∷ []) (inc_of old.table k + 1) (agreed_of old.table i)) (sym (eqb-true j i e))
-      (line-seal (length (feed_at feeds i)) i (lines i) (bases i) (inc_of old.table i) (agreed_of old.table i) (s.each_line i i_lt))
+  line_at : (i : ℕ) → i < length story.feeds → (b : Bool) → eqb j i ≡ b →
+      IsHubLine (length (feed_at story.feeds i)) i (story.lines i) (cond b (story.bases i ++ agreed_of old.table j ∷ []) (story.bases i)) (cond b (inc_of old.table j + 1) (inc_of old.table i)) (agreed_of old.table i)
+  line_at i i_lt true e = subst (λ (k : ℕ). IsHubLine (length (feed_at story.feeds i)) i (story.lines i) (story.bases i ++ agreed_of old.table k ∷ []) (inc_of old.table k + 1) (agreed_of old.table i)) (sym (eqb-true j i e))
+      (line-seal (length (feed_at story.feeds i)) i (story.lines i) (story.bases i) (inc_of old.table i) (agreed_of old.table i) (s.each_line i i_lt))
   line_at i i_lt false e = s.each_line i i_lt
 
-  chain_at_node : (p i : ℕ) → p < parts → i < length feeds → (b : Bool) → eqb j i ≡ b →
-      IsHubChain parts feeds p i (lines i) (cond b (bases i ++ agreed_of old.table j ∷ []) (bases i)) (cond b (inc_of old.table j + 1) (inc_of old.table i)) (agreed_of old.table i) (chain_of old p i)
-  chain_at_node p i p_lt i_lt true e = subst (λ (k : ℕ). IsHubChain parts feeds p i (lines i) (bases i ++ agreed_of old.table k ∷ []) (inc_of old.table k + 1) (agreed_of old.table i) (chain_of old p i)) (sym (eqb-true j i e))
-      (chain-seal (length (feed_at feeds i)) i (lines i) (bases i) (inc_of old.table i) (agreed_of old.table i) (s.each_line i i_lt) parts feeds p (chain_of old p i) (s.chains p i p_lt i_lt))
+  chain_at_node : (p i : ℕ) → p < story.parts → i < length story.feeds → (b : Bool) → eqb j i ≡ b →
+      IsHubChain story.parts story.feeds p i (story.lines i) (cond b (story.bases i ++ agreed_of old.table j ∷ []) (story.bases i)) (cond b (inc_of old.table j + 1) (inc_of old.table i)) (agreed_of old.table i) (chain_of old p i)
+  chain_at_node p i p_lt i_lt true e = subst (λ (k : ℕ). IsHubChain story.parts story.feeds p i (story.lines i) (story.bases i ++ agreed_of old.table k ∷ []) (inc_of old.table k + 1) (agreed_of old.table i) (chain_of old p i)) (sym (eqb-true j i e))
+      (chain-seal (length (feed_at story.feeds i)) i (story.lines i) (story.bases i) (inc_of old.table i) (agreed_of old.table i) (s.each_line i i_lt) story.parts story.feeds p (chain_of old p i) (s.chains p i p_lt i_lt))
   chain_at_node p i p_lt i_lt false e = s.chains p i p_lt i_lt
 
-  row_at_node : (p i : ℕ) → p < parts → i < length feeds → (row_at old.table.rows p).reported ≡ true → (b : Bool) → eqb j i ≡ b →
+  row_at_node : (p i : ℕ) → p < story.parts → i < length story.feeds → (row_at old.table.rows p).reported ≡ true → (b : Bool) → eqb j i ≡ b →
       IsHubRow i (cond b (inc_of old.table j + 1) (inc_of old.table i)) (agreed_of old.table i) (chain_of old p i) (row_at old.table.rows p)
   row_at_node p i p_lt i_lt r true e = subst (λ (k : ℕ). IsHubRow i (inc_of old.table k + 1) (agreed_of old.table i) (chain_of old p i) (row_at old.table.rows p)) (sym (eqb-true j i e))
-      (row-seal (length (feed_at feeds i)) i (lines i) (bases i) (inc_of old.table i) (agreed_of old.table i) (s.each_line i i_lt) parts feeds p (chain_of old p i) (s.chains p i p_lt i_lt) (row_at old.table.rows p) (s.rows p i p_lt i_lt r))
+      (row-seal (length (feed_at story.feeds i)) i (story.lines i) (story.bases i) (inc_of old.table i) (agreed_of old.table i) (s.each_line i i_lt) story.parts story.feeds p (chain_of old p i) (s.chains p i p_lt i_lt) (row_at old.table.rows p) (s.rows p i p_lt i_lt r))
   row_at_node p i p_lt i_lt r false e = s.rows p i p_lt i_lt r
 
-  pub seal-stands : IsCore (with_seal old j) → CoreStands parts feeds lines (based bases j (agreed_of old.table j)) vectors (with_seal old j)
+  pub seal-stands : IsCore (with_seal old j) → CoreStands (sealed_story story j (agreed_of old.table j)) (with_seal old j)
   seal-stands core = record {
     core = core;
     parts_are = s.parts_are;
     nodes_are = s.nodes_are;
-    each_line = λ i i_lt. subst (λ (n : ℕ). IsHubLine (length (feed_at feeds i)) i (lines i) (based bases j (agreed_of old.table j) i) n (agreed_of old.table i)) (sym (inc_at i)) (line_at i i_lt (eqb j i) refl);
-    chains = λ p i p_lt i_lt. subst (λ (n : ℕ). IsHubChain parts feeds p i (lines i) (based bases j (agreed_of old.table j) i) n (agreed_of old.table i) (chain_of old p i)) (sym (inc_at i)) (chain_at_node p i p_lt i_lt (eqb j i) refl);
+    each_line = λ i i_lt. subst (λ (n : ℕ). IsHubLine (length (feed_at story.feeds i)) i (story.lines i) (based story.bases j (agreed_of old.table j) i) n (agreed_of old.table i)) (sym (inc_at i)) (line_at i i_lt (eqb j i) refl);
+    chains = λ p i p_lt i_lt. subst (λ (n : ℕ). IsHubChain story.parts story.feeds p i (story.lines i) (based story.bases j (agreed_of old.table j) i) n (agreed_of old.table i) (chain_of old p i)) (sym (inc_at i)) (chain_at_node p i p_lt i_lt (eqb j i) refl);
     rows = λ p i p_lt i_lt r. subst (λ (n : ℕ). IsHubRow i n (agreed_of old.table i) (chain_of old p i) (row_at old.table.rows p)) (sym (inc_at i)) (row_at_node p i p_lt i_lt r (eqb j i) refl);
     floors = s.floors;
     start = s.start;

@@ -1,11 +1,10 @@
 -- Commits: a partition's store takes an epoch's pieces, and its chains let go of them.
-use Rattle.std.specs.Prelude.{ℕ, zero, suc, ◌≡◌, ◌<◌, ◌≤◌, ◌+◌, ◌^◌, List, [], ◌∷◌, All, length, slice_set}
+use Rattle.std.specs.Prelude.{ℕ, zero, suc, ◌≡◌, ◌<◌, ◌≤◌, ◌+◌, ◌*◌, ◌^◌, List, [], ◌∷◌, All, length, slice_set}
 use Rattle.kin_ids.specs.declared.ids.User.{User}
 use Rattle.kin_ids.specs.declared.ops.Numbered.{Numbered}
 use Rattle.kin_ids.specs.declared.ops.Piece.{Piece}
-use Rattle.kin_ids.specs.declared.ops.Record.{Record}
 use Rattle.kin_ids.specs.declared.stamps.End.{End}
-use Rattle.kin_ids.specs.declared.stamps.Stamp.{Stamp}
+use Rattle.kin_ids.specs.Graph.{vertices}
 use Rattle.kin_ids.specs.Sizes.{AreWithinLimits}
 use Rattle.kin_ids.specs.Operations.{op_part}
 use Rattle.kin_ids.specs.Order.{snapshot}
@@ -15,11 +14,11 @@ use Rattle.kin_held.specs.Takes.{chain_past}
 use Rattle.kin_table.specs.Vectors.{end_at}
 use Rattle.kin_graph.specs.State.{PartState, after, view_of}
 use Rattle.kin_blocks.specs.Snaps.{joined}
-use Rattle.kin_blocks.specs.Wholes.{IsWhole}
+use Rattle.kin_ids.specs.Wholes.{IsViewOf}
 use Rattle.kin_blocks.specs.Versions.{PutsNext}
 use Rattle.kin_hub.specs.Cores.{CoreView, held_at}
-use Rattle.kin_hub.specs.Hubs.{HubView, KeepsEpoch, nodes_in, committed_in, next_ends, snap_in, store_in}
-use Rattle.kin_hub.specs.Stands.{HubStands}
+use Rattle.kin_hub.specs.Hubs.{HubView, KeepsEpoch, parts_in, nodes_in, cuts_in, committed_in, next_ends, snap_in, store_in}
+use Rattle.kin_hub.specs.Stands.{Story, HubStands}
 
 -- what pieces of an epoch do to a part, one after the other
 abbrev pub pieces_applied : ℕ → PartView → List Piece → PartView
@@ -50,21 +49,37 @@ pub record Forgets (old : List ChainView) (ends : List End) (new : List ChainVie
 abbrev pub CoreForgets : CoreView → ℕ → List End → CoreView → Type 0
 CoreForgets old p ends new = (held : List ChainView) × Forgets (held_at old.helds p) ends held × (new ≡ record old { helds = slice_set old.helds p held })
 
--- Partition p commits its next epoch: its store is the one before with the epoch's pieces, node by node, and its chains let go of them.
+-- what partition p's store is with the pieces of its next epoch, node by node
+abbrev pub next_store : HubView → ℕ → PartView
+next_store h p = nodes_applied (committed_in h p + 1) (held_at h.core.helds p) (next_ends h p) (view_of (store_in h p (committed_in h p))) (nodes_in h)
+
+-- no number of mentions passes 2^64 - 1 by partition p's next epoch, where that is cut
+abbrev pub MayCommit : HubView → ℕ → Type 0
+MayCommit h p = committed_in h p < cuts_in h → (u : User) → (next_store h p).said u < 2 ^ 64
+
+-- Partition p commits its next epoch: its store is the one with the epoch's pieces, and its chains let go of them.
 pub record Commits (old : HubView) (p : ℕ) (new : HubView) : Type 0 where
   pub core : CoreForgets old.core p (next_ends old p) new.core
   pub store : PartState
-  pub applied : view_of store ≡ nodes_applied (committed_in old p + 1) (held_at old.core.helds p) (next_ends old p) (view_of (store_in old p (committed_in old p))) (nodes_in old)
+  pub applied : view_of store ≡ next_store old p
   pub versions : PutsNext old.versions p store new.versions
 
--- the hub stands for something over feeds within the limits
+-- the hub stands for a story over feeds within the limits
 abbrev pub HasSmallFeeds : HubView → Type 0
-HasSmallFeeds h = (parts : ℕ) × (feeds : List (List Record)) × (lines : ℕ → List Stamp) × (bases : ℕ → List ℕ) × (vectors : ℕ → ℕ → ℕ) × HubStands parts feeds lines bases vectors h × AreWithinLimits feeds
+HasSmallFeeds h = (story : Story) × HubStands story h × AreWithinLimits story.feeds
 
--- For all that the hub stands for, these stores hand out together the graph of all records within vector k.
+-- which is one way to show that its partitions may commit
+abbrev pub MayCommitLaw : Type 0
+MayCommitLaw = (h : HubView) (p : ℕ) → HasSmallFeeds h → p < parts_in h → MayCommit h p
+
+-- over feeds within the limits the graph of a cut epoch has few vertices
+abbrev pub FewVerticesLaw : Type 0
+FewVerticesLaw = (story : Story) (h : HubView) (k : ℕ) → HubStands story h → AreWithinLimits story.feeds → k ≤ cuts_in h →
+    length (vertices (snapshot story.feeds story.vectors k)) ≤ 17 * 2097152
+
+-- For every story that the hub stands for, these stores hand out together the graph of all records within vector k.
 abbrev pub AreSnapshot : HubView → ℕ → List PartState → Type 0
-AreSnapshot h k stores = (parts : ℕ) (feeds : List (List Record)) (lines : ℕ → List Stamp) (bases : ℕ → List ℕ) (vectors : ℕ → ℕ → ℕ) →
-    HubStands parts feeds lines bases vectors h → IsWhole (snapshot feeds vectors k) (joined stores)
+AreSnapshot h k stores = (story : Story) → HubStands story h → IsViewOf (snapshot story.feeds story.vectors k) (joined stores)
 
 -- every epoch that was kept is kept still, and its stores are as they were
 abbrev pub KeepsSnaps : HubView → HubView → Type 0

@@ -12,22 +12,29 @@ use Rattle.kin_hub.specs.Cores.{CoreView, IsCore, chain_of}
 use Rattle.kin_hub.specs.Hubs.{HubView, chain_in, cuts_in, committed_in, first_in, store_in}
 use Rattle.kin_hub.specs.Lines.{IsHubLine, IsHubChain, IsHubRow, IsHubEnd}
 
--- The core stands for these. `lines i` is the agreed line of node i, `bases i` has where each of its incarnations began, and
--- `vectors k i` is its position in vector k, of which vector 0 is zeros. No floor is above the last
--- vector.
-pub record CoreStands (parts : ℕ) (feeds : List (List Record)) (lines : ℕ → List Stamp) (bases : ℕ → List ℕ) (vectors : ℕ → ℕ → ℕ) (c : CoreView) : Type 0 where
-  pub core : IsCore c
-  pub parts_are : length c.helds ≡ parts
-  pub nodes_are : length c.table.agreed ≡ length feeds
-  pub each_line : (i : ℕ) → i < length feeds → IsHubLine (length (feed_at feeds i)) i (lines i) (bases i) (inc_of c.table i) (agreed_of c.table i)
-  pub chains : (p i : ℕ) → p < parts → i < length feeds → IsHubChain parts feeds p i (lines i) (bases i) (inc_of c.table i) (agreed_of c.table i) (chain_of c p i)
-  pub rows : (p i : ℕ) → p < parts → i < length feeds → (row_at c.table.rows p).reported ≡ true → IsHubRow i (inc_of c.table i) (agreed_of c.table i) (chain_of c p i) (row_at c.table.rows p)
-  pub floors : (p i : ℕ) → p < parts → i < length feeds → (chain_of c p i).floor ≤ vectors (cuts_of c.table) i
-  pub start : (i : ℕ) → i < length feeds → vectors 0 i ≡ 0
-  pub grow : (k i : ℕ) → k + 1 < length c.table.vectors → i < length feeds → vectors k i ≤ vectors (k + 1) i
-  pub ends : (k i : ℕ) → k < length c.table.vectors → i < length feeds → IsHubEnd (lines i) (agreed_of c.table i) (vectors k i) (end_at (vector_at c.table.vectors k) i)
+-- What a hub stands for, apart from any history: the number of partitions, and the feeds by their records; of each node the line of its
+-- agreed stamps, and where each of its incarnations began; and where each vector ends a node, vector 0 at zeros.
+pub record Story : Type 0 where
+  pub parts : ℕ
+  pub feeds : List (List Record)
+  pub lines : ℕ → List Stamp
+  pub bases : ℕ → List ℕ
+  pub vectors : ℕ → ℕ → ℕ
 
--- The stores stand for these: no partition has committed more than is cut; its floors are where the last vector that it has committed
+-- The core stands for a story. No floor is above the last vector.
+pub record CoreStands (story : Story) (c : CoreView) : Type 0 where
+  pub core : IsCore c
+  pub parts_are : length c.helds ≡ story.parts
+  pub nodes_are : length c.table.agreed ≡ length story.feeds
+  pub each_line : (i : ℕ) → i < length story.feeds → IsHubLine (length (feed_at story.feeds i)) i (story.lines i) (story.bases i) (inc_of c.table i) (agreed_of c.table i)
+  pub chains : (p i : ℕ) → p < story.parts → i < length story.feeds → IsHubChain story.parts story.feeds p i (story.lines i) (story.bases i) (inc_of c.table i) (agreed_of c.table i) (chain_of c p i)
+  pub rows : (p i : ℕ) → p < story.parts → i < length story.feeds → (row_at c.table.rows p).reported ≡ true → IsHubRow i (inc_of c.table i) (agreed_of c.table i) (chain_of c p i) (row_at c.table.rows p)
+  pub floors : (p i : ℕ) → p < story.parts → i < length story.feeds → (chain_of c p i).floor ≤ story.vectors (cuts_of c.table) i
+  pub start : (i : ℕ) → i < length story.feeds → story.vectors 0 i ≡ 0
+  pub grow : (k i : ℕ) → k + 1 < length c.table.vectors → i < length story.feeds → story.vectors k i ≤ story.vectors (k + 1) i
+  pub ends : (k i : ℕ) → k < length c.table.vectors → i < length story.feeds → IsHubEnd (story.lines i) (agreed_of c.table i) (story.vectors k i) (end_at (vector_at c.table.vectors k) i)
+
+-- The stores stand for these feeds and vectors: no partition has committed more than is cut; its floors are where the last vector that it has committed
 -- is; and its store at each epoch that it has committed, from the first kept one on, is its part of the graph of all records within that
 -- vector.
 pub record StoresStand (parts : ℕ) (feeds : List (List Record)) (vectors : ℕ → ℕ → ℕ) (h : HubView) : Type 0 where
@@ -37,11 +44,11 @@ pub record StoresStand (parts : ℕ) (feeds : List (List Record)) (vectors : ℕ
   pub floors : (p i : ℕ) → p < parts → i < length feeds → (chain_in h p i).floor ≡ vectors (committed_in h p) i
   pub stores : (p k : ℕ) → p < parts → first_in h ≤ k → k ≤ committed_in h p → IsPart parts p (snapshot feeds vectors k) (view_of (store_in h p k))
 
--- the hub stands for these
-pub record HubStands (parts : ℕ) (feeds : List (List Record)) (lines : ℕ → List Stamp) (bases : ℕ → List ℕ) (vectors : ℕ → ℕ → ℕ) (h : HubView) : Type 0 where
-  pub core : CoreStands parts feeds lines bases vectors h.core
-  pub stores : StoresStand parts feeds vectors h
+-- the hub stands for a story
+pub record HubStands (story : Story) (h : HubView) : Type 0 where
+  pub core : CoreStands story h.core
+  pub stores : StoresStand story.parts story.feeds story.vectors h
 
--- it stands for some
-abbrev pub HasStands : HubView → Type 0
-HasStands h = (parts : ℕ) × (feeds : List (List Record)) × (lines : ℕ → List Stamp) × (bases : ℕ → List ℕ) × (vectors : ℕ → ℕ → ℕ) × HubStands parts feeds lines bases vectors h
+-- it stands for some story
+abbrev pub HasStory : HubView → Type 0
+HasStory h = (story : Story) × HubStands story h

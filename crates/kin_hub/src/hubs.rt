@@ -21,13 +21,13 @@ pub struct Hub {
 
 impl Model for Hub {
     ghost use Rattle.kin_hub.specs.Hubs.{HubView};
-    ghost use Rattle.kin_hub.specs.Stands.{HasStands};
+    ghost use Rattle.kin_hub.specs.Stands.{HasStory};
 
     ghost Value = { HubView };
 
     ghost view = { λ h. record { core = h.core; versions = h.versions } };
 
-    ghost invariant = { λ h. HasStands (record { core = h.core; versions = h.versions }) };
+    ghost invariant = { λ h. HasStory (record { core = h.core; versions = h.versions }) };
 }
 
 impl Hub {
@@ -40,8 +40,8 @@ impl Hub {
     ghost use Rattle.kin_hub.specs.Cores.{CoreTakes, least_reach, past_in, ready_run, ready, since_cut, with_report, with_raise, with_seal, with_cut};
     ghost use Rattle.kin_hub.specs.Hubs.{KeepsEpoch, parts_in, nodes_in, chain_in, agreed_in, inc_in, missing_in, cuts_in, last_in, committed_in, snap_in};
     ghost use Rattle.kin_blocks.specs.Versions.{released};
-    ghost use Rattle.kin_hub.specs.Commits.{HasSmallFeeds, AreSnapshot, Commits, KeepsSnaps, KeepsSnapsFrom};
-    ghost use Rattle.kin_hub.specs.Opens.{first_hub, no_lines, first_bases, no_vectors};
+    ghost use Rattle.kin_hub.specs.Commits.{MayCommit, AreSnapshot, Commits, KeepsSnaps, KeepsSnapsFrom};
+    ghost use Rattle.kin_hub.specs.Opens.{first_hub, first_story};
     ghost use Rattle.kin_hub.specs.Stands.{HubStands};
     ghost use Rattle.kin_hub.specs.Goes.{Knows, HubPlaces, HubKeeps, HubRaises, HubSeals, HubCuts, AreSince};
 
@@ -51,7 +51,7 @@ impl Hub {
         requires parts { 0 < parts }
         ensures value { IfOk result (λ h. h ≡ first_hub nodes parts) }
         ensures stands { IfOk result (λ h. (feeds : List (List Record)) → length feeds ≡ nodes
-            → HubStands parts feeds no_lines first_bases no_vectors h) }
+            → HubStands (first_story feeds parts) h) }
     {
         Ok(Hub {
             core: Core::new(alloc, nodes, parts)?,
@@ -166,7 +166,7 @@ impl Hub {
     /// of them. It costs a copy of the store, and what the pieces cost.
     pub fn commit(&mut self, p: PartId) -> Result<Epoch, CommitRefused>
         requires part { p.0 < parts_in self.old }
-        requires small { HasSmallFeeds self.old }
+        requires said { MayCommit self.old p.0 }
         ensures nothing_cut { IsErrOf result CommitRefused.NothingCut ↔ (committed_in self.old p.0 ≡ cuts_in self.old) }
         ensures err { OnErr result (self.new ≡ self.old) }
         ensures epoch { IfOk result (λ k. k.0 ≡ committed_in self.old p.0 + 1) }

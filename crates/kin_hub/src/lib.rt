@@ -5,6 +5,7 @@ pub mod answers;
 mod commits;
 mod cores;
 pub mod hubs;
+pub mod laws;
 mod runs;
 
 pub use answers::CommitRefused;

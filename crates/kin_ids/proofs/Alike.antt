@@ -4,7 +4,7 @@ use Rattle.kin_ids.specs.Types.{Record}
 use Rattle.kin_ids.specs.Graph.{empty_graph}
 use Rattle.kin_ids.specs.Order.{of_epoch, order, folded, snapshot}
 
-of_epoch-alike : (feeds : List (List Record)) (e : ℕ) (a b c d : ℕ → ℕ) (n : ℕ) → ((i : ℕ) → i < n → a i ≡ c i) → ((i : ℕ) → i < n → b i ≡ d i) → of_epoch feeds e a b n ≡ of_epoch feeds e c d n
+pub of_epoch-alike : (feeds : List (List Record)) (e : ℕ) (a b c d : ℕ → ℕ) (n : ℕ) → ((i : ℕ) → i < n → a i ≡ c i) → ((i : ℕ) → i < n → b i ≡ d i) → of_epoch feeds e a b n ≡ of_epoch feeds e c d n
 of_epoch-alike feeds e a b c d zero was now = refl
 of_epoch-alike feeds e a b c d (suc n) was now = rw (of_epoch-alike feeds e a b c d n (λ i lt. was i (omega arith)) (λ i lt. now i (omega arith)), was n (omega arith), now n (omega arith)) refl
 

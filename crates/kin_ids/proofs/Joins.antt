@@ -1,14 +1,14 @@
 -- Joining the records between positions of a feed.
-use Rattle.std.proofs.Common.{◌≡◌, ℕ, ◌+◌, ◌-◌, ◌<◌, ◌≤◌, ⊎_elim, List, [], ◌∷◌, ◌++◌, length, take, drop, refl, sym, ◌∙◌, ap, arith}
-use Rattle.std.specs.Prelude.{map}
-use Rattle.std.proofs.lemmas.Bool.{cases_lt}
+use Rattle.std.proofs.Common.{◌≡◌, ℕ, suc, ◌+◌, ◌-◌, ◌<◌, ◌≤◌, cond, leb, ⊎_elim, List, [], ◌∷◌, ◌++◌, length, take, drop, refl, sym, ◌∙◌, ap, arith}
+use Rattle.std.specs.Prelude.{map, filter}
+use Rattle.std.proofs.lemmas.Bool.{cases_lt, cond_both, cond-true, cond-false, leb-false, lt-leb}
 use Rattle.std.proofs.lemmas.List.{map-append, length-take, length-drop, drop-drop, drop_all, take_all}
 use Rattle.std.proofs.Math.Seq.{take-add}
 use Rattle.kin_ids.specs.Types.{Stamp, Record}
 use Rattle.kin_ids.specs.Lines.{IsLine, IsEnd, end_of, upto, past}
 use Rattle.kin_ids.specs.Order.{Entry, entries, between, folded}
 use Rattle.kin_ids.specs.Graph.{Graph, applied}
-use Rattle.kin_ids.specs.Records.{Counted, counted, joined, LineLaw}
+use Rattle.kin_ids.specs.Records.{Counted, counted, line_records, line_entries, BetweenEndsLaw, WithinLaw}
 use Rattle.kin_ids.proofs.Lines.{line_grows, upto-line, upto-ends, upto-end, past-line, upto-past, end_of-append}
 
 -- the records from one position to another are those to a position between, and those from there
@@ -58,18 +58,14 @@ entries-split e i feed from mid to low high = rw (entries-are e i from (between 
     (map-append (entry_of e i) (counted from (between feed from mid)) (counted mid (between feed mid to)))
 
 -- stamps that follow each other have the records from the first to the last
-pub joined-is : (feed : List Record) (at : ℕ) (ss : List Stamp) → IsLine at ss → joined feed ss ≡ between feed at (end_of at ss)
-joined-is feed at [] l = sym (between-none feed at)
-joined-is feed at (s ∷ ss) l =
+pub line_records-are : (feed : List Record) (at : ℕ) (ss : List Stamp) → IsLine at ss → line_records feed ss ≡ between feed at (end_of at ss)
+line_records-are feed at [] l = sym (between-none feed at)
+line_records-are feed at (s ∷ ss) l =
     let some : at < s.to = l.1 in
-    ap (λ (n : ℕ). between feed n s.to ++ joined feed ss) l.0 ∙ (ap (λ rs. between feed at s.to ++ rs) (joined-is feed s.to ss l.2)
+    ap (λ (n : ℕ). between feed n s.to ++ line_records feed ss) l.0 ∙ (ap (λ rs. between feed at s.to ++ rs) (line_records-are feed s.to ss l.2)
     ∙ sym (between-split feed at s.to (end_of s.to ss) (omega arith) (line_grows s.to ss l.2)))
 
--- the entries of stamps, one stamp after the other
-abbrev pub line_entries : ℕ → ℕ → List Record → List Stamp → List Entry
-line_entries e i feed [] = []
-line_entries e i feed (s ∷ ss) = entries e i s.from (between feed s.from s.to) ++ line_entries e i feed ss
-
+-- the entries of stamps that follow each other
 pub line_entries-are : (e i : ℕ) (feed : List Record) (at : ℕ) (ss : List Stamp) → IsLine at ss → line_entries e i feed ss ≡ entries e i at (between feed at (end_of at ss))
 line_entries-are e i feed at [] l = sym (ap (entries e i at) (between-none feed at))
 line_entries-are e i feed at (s ∷ ss) l =
@@ -82,12 +78,32 @@ pub folded-append : (g : Graph) (xs ys : List Entry) → folded g (xs ++ ys) ≡
 folded-append g [] ys = refl
 folded-append g (x ∷ xs) ys = folded-append (applied x.place g x.content) xs ys
 
+-- what is left past an end of a line leads to the line's end
 pub past-end_of : (at g : ℕ) (ss : List Stamp) → IsLine at ss → IsEnd at ss g → end_of g (past g ss) ≡ end_of at ss
 past-end_of at g ss l e = ap (λ (n : ℕ). end_of n (past g ss)) (sym (upto-end at g ss l e)) ∙ (sym (end_of-append at (upto g ss) (past g ss)) ∙ ap (end_of at) (upto-past g ss))
 
-pub line-law : LineLaw
-line-law feed line was now l from to le =
+pub between-ends-law : BetweenEndsLaw
+between-ends-law feed line was now l from to le =
     let front = upto-line 0 now line l in
     let inside = upto-ends 0 now was line l from le in
-    joined-is feed was (past was (upto now line)) (past-line 0 was (upto now line) front inside)
+    line_records-are feed was (past was (upto now line)) (past-line 0 was (upto now line) front inside)
     ∙ ap (between feed was) (past-end_of 0 was (upto now line) front inside ∙ upto-end 0 now line l to)
+
+-- no stamp of a line from a position on ends at it or before
+filter-none : (at b : ℕ) (ss : List Stamp) → IsLine at ss → b ≤ at → filter (λ (s : Stamp). leb s.to b) ss ≡ []
+filter-none at b [] l le = refl
+filter-none at b (s ∷ ss) l le = let some : at < s.to = l.1 in cond-false (leb s.to b) _ _ (lt-leb _ _ (omega arith)) ∙ filter-none s.to b ss l.2 (omega arith)
+
+pub filter-upto : (at b : ℕ) (ss : List Stamp) → IsLine at ss → filter (λ (s : Stamp). leb s.to b) ss ≡ upto b ss
+filter-upto at b [] l = refl
+filter-upto at b (s ∷ ss) l = cond_both (leb s.to b) (s ∷ upto b ss) [] (λ ys. cond (leb s.to b) (s ∷ filter (λ (s : Stamp). leb s.to b) ss) (filter (λ (s : Stamp). leb s.to b) ss) ≡ ys)
+    (λ t. cond-true (leb s.to b) _ _ t ∙ ap (λ ys. s ∷ ys) (filter-upto s.to b ss l.2))
+    (λ n. cond-false (leb s.to b) _ _ n ∙ filter-none s.to b ss l.2 (let low = leb-false _ _ n in omega arith))
+
+pub within-law : WithinLaw
+within-law lines vectors k i at l = filter-upto at (vectors k i) (lines i) l
+
+-- as many entries as records
+pub length-entries : (e i n : ℕ) (rs : List Record) → length (entries e i n rs) ≡ length rs
+length-entries e i n [] = refl
+length-entries e i n (r ∷ rs) = ap suc (length-entries e i (n + 1) rs)

@@ -1,15 +1,21 @@
 pub mod Lines
 pub mod Numerals
+mod TagFields
+pub mod InTurn
 pub mod Turns
+pub mod RowOrder
 pub mod Rounds
 pub mod Same
 pub mod Edges
 pub mod Once
 pub mod Told
+pub mod Heard
+pub mod Vertices
 pub mod Joins
 pub mod Orders
 pub mod Whole
 pub mod Halves
 pub mod Shares
+pub mod PartOps
 pub mod Runs
 pub mod Alike

@@ -12,7 +12,7 @@ use Rattle.kin_ids.proofs.Same.{same_user-sym, same_tag-sym, list_any-alike}
 use Rattle.kin_ids.proofs.Edges.{IsOnceEdge, any-with_follow, any-without_follow}
 
 -- one more element
-IsOnce-push : {A : Type 0} (same : A → A → Bool) (xs : List A) (y : A) → list_any (λ x. same x y) xs ≡ false → IsOnce same xs → IsOnce same (xs ++ y ∷ [])
+pub IsOnce-push : {A : Type 0} (same : A → A → Bool) (xs : List A) (y : A) → list_any (λ x. same x y) xs ≡ false → IsOnce same xs → IsOnce same (xs ++ y ∷ [])
 IsOnce-push same [] y none once = (refl, tt)
 IsOnce-push same (x ∷ xs) y none once =
     let parts = or_parts (same x y) (list_any (λ z. same z y) xs) none in

@@ -1,14 +1,15 @@
 -- The agreed order has each record once, by ascending place.
-use Rattle.std.proofs.Common.{◌≡◌, ◌≢◌, ℕ, zero, suc, ◌+◌, ◌<◌, ◌≤◌, Bool, true, false, cond, eqb, ltb, ⊎_elim, List, [], ◌∷◌, ◌++◌, length, refl, sym, ◌∙◌, ap, subst, arith, add-one}
+use Rattle.std.proofs.Common.{◌≡◌, ◌≢◌, ℕ, zero, suc, ◌+◌, ◌-◌, ◌<◌, ◌≤◌, Bool, true, false, cond, eqb, ltb, ⊎_elim, List, [], ◌∷◌, ◌++◌, length, drop, refl, sym, ◌∙◌, ap, subst, arith, add-one}
 use Rattle.std.specs.Prelude.{map}
 use Rattle.std.specs.List.{list_all, AllByRecursion}
 use Rattle.std.proofs.lemmas.Bool.{cases_eq, cond-true, cond-false, and_from, or_left, or_right, eq-eqb, ne_eqb, lt-ltb}
-use Rattle.std.proofs.lemmas.List.{map-append, append-nil}
+use Rattle.std.proofs.lemmas.List.{map-append, append-nil, length-take}
+use Rattle.std.proofs.lemmas.List.Elements.{All-from_recursion}
 use Rattle.std.proofs.lemmas.List.Folds.{list_all-append}
 use Rattle.kin_ids.specs.Types.{Place, Record}
 use Rattle.kin_ids.specs.Users.{is_before, IsAscending}
 use Rattle.kin_ids.specs.Order.{Entry, feed_at, entries, between, of_epoch, order}
-use Rattle.kin_ids.specs.Records.{counted, of_feed, DoNotFall, OrderLaw}
+use Rattle.kin_ids.specs.Records.{counted, of_feed, IsOfEpoch, DoNotFall, OrderLaw}
 use Rattle.kin_ids.proofs.Joins.{between-front, counted-split}
 
 abbrev places : List Entry → List Place
@@ -68,11 +69,11 @@ all-from : (P : Place → Type 0) (test : Place → Bool) (ps : List Place) → 
 all-from P test [] h all = refl
 all-from P test (p ∷ ps) h all = and_from _ _ (h p all.0) (all-from P test ps h all.1)
 
-all-append : (P : Place → Type 0) (xs ys : List Place) → AllByRecursion P xs → AllByRecursion P ys → AllByRecursion P (xs ++ ys)
+all-append : {X : Type 0} (P : X → Type 0) (xs ys : List X) → AllByRecursion P xs → AllByRecursion P ys → AllByRecursion P (xs ++ ys)
 all-append P [] ys a b = b
 all-append P (x ∷ xs) ys a b = (a.0, all-append P xs ys a.1 b)
 
-all-weaker : (P Q : Place → Type 0) (xs : List Place) → ((p : Place) → P p → Q p) → AllByRecursion P xs → AllByRecursion Q xs
+all-weaker : {X : Type 0} (P Q : X → Type 0) (xs : List X) → ((p : X) → P p → Q p) → AllByRecursion P xs → AllByRecursion Q xs
 all-weaker P Q [] h a = tt
 all-weaker P Q (x ∷ xs) h a = (h x a.0, all-weaker P Q xs h a.1)
 
@@ -129,5 +130,56 @@ module _ (feeds : List (List Record)) (vectors : ℕ → ℕ → ℕ) where
       (places (order feeds vectors k)) (places (of_epoch feeds (suc k) (vectors k) (vectors (suc k)) (length feeds))) (order-places k) (epoch-places feeds (suc k) (vectors k) (vectors (suc k)) (length feeds))
       (order-ascends k) (epoch-ascends feeds (suc k) (vectors k) (vectors (suc k)) (length feeds)))
 
+-- each entry is of its epoch
+record IsNumbered (e i low high : ℕ) (x : Entry) : Type 0 where
+  epoch : x.place.epoch.0 ≡ e
+  node : x.place.ingest.0 ≡ i
+  past : low < x.place.number
+  upto : x.place.number ≤ high
+
+numbered-entries : (e i n : ℕ) (rs : List Record) → AllByRecursion (IsNumbered e i n (n + length rs)) (entries e i n rs)
+numbered-entries e i n [] = tt
+numbered-entries e i n (r ∷ rs) = (
+  record { epoch = refl; node = refl; past = omega arith; upto = omega arith },
+  all-weaker (IsNumbered e i (n + 1) (n + 1 + length rs)) (IsNumbered e i n (n + length (r ∷ rs))) (entries e i (n + 1) rs)
+      (λ x h. let low = h.past in let high = h.upto in record { epoch = h.epoch; node = h.node; past = omega arith; upto = omega arith }) (numbered-entries e i (n + 1) rs),
+)
+
+module _ (feeds : List (List Record)) (vectors : ℕ → ℕ → ℕ) where
+  of-this-epoch : (k i : ℕ) (x : Entry) → i < length feeds → IsNumbered (suc k) i (vectors k i) (vectors k i + length (between (feed_at feeds i) (vectors k i) (vectors (suc k) i))) x → IsOfEpoch feeds vectors (suc k) x
+  of-this-epoch k i x lt h =
+      let epoch = h.epoch in
+      let node = h.node in
+      let low = h.past in
+      let high = h.upto in
+      let some = length-take (vectors (suc k) i - vectors k i) (drop (vectors k i) (feed_at feeds i)) in
+      let before : x.place.epoch.0 - 1 ≡ k = omega arith in
+      record {
+        first = omega arith;
+        last = omega arith;
+        node = omega arith;
+        past = rw (before, node) low;
+        upto = rw (epoch, node) (omega arith);
+      }
+
+  epoch-of : (k n : ℕ) → n ≤ length feeds → AllByRecursion (IsOfEpoch feeds vectors (suc k)) (of_epoch feeds (suc k) (vectors k) (vectors (suc k)) n)
+  epoch-of k zero le = tt
+  epoch-of k (suc n) le =
+      let new = between (feed_at feeds n) (vectors k n) (vectors (suc k) n) in
+      all-append (IsOfEpoch feeds vectors (suc k)) (of_epoch feeds (suc k) (vectors k) (vectors (suc k)) n) (entries (suc k) n (vectors k n) new) (epoch-of k n (omega arith))
+      (all-weaker (IsNumbered (suc k) n (vectors k n) (vectors k n + length new)) (IsOfEpoch feeds vectors (suc k)) (entries (suc k) n (vectors k n) new)
+      (λ x h. of-this-epoch k n x (omega arith) h) (numbered-entries (suc k) n (vectors k n) new))
+
+  order-of : (k : ℕ) → AllByRecursion (IsOfEpoch feeds vectors k) (order feeds vectors k)
+  order-of zero = tt
+  order-of (suc k) = all-append (IsOfEpoch feeds vectors (suc k)) (order feeds vectors k) (of_epoch feeds (suc k) (vectors k) (vectors (suc k)) (length feeds))
+      (all-weaker (IsOfEpoch feeds vectors k) (IsOfEpoch feeds vectors (suc k)) (order feeds vectors k)
+      (λ x h. let last = h.last in record { first = h.first; last = omega arith; node = h.node; past = h.past; upto = h.upto }) (order-of k))
+      (epoch-of k (length feeds) (omega arith))
+
 pub order-law : OrderLaw
-order-law feeds vectors k d = record { each = λ i lt. each feeds vectors k d i lt ∙ ap (counted 0) (between-front (feed_at feeds i) (vectors k i)); ascend = order-ascends feeds vectors k }
+order-law feeds vectors k d = record {
+  each = λ i lt. each feeds vectors k d i lt ∙ ap (counted 0) (between-front (feed_at feeds i) (vectors k i));
+  epochs = All-from_recursion (IsOfEpoch feeds vectors k) (order feeds vectors k) (order-of feeds vectors k);
+  ascend = order-ascends feeds vectors k;
+}

@@ -1,14 +1,13 @@
 -- Steps of going round the nodes, for code that takes a fair cut.
-use Rattle.std.proofs.Common.{◌≡◌, ◌≢◌, ℕ, zero, suc, ◌+◌, ◌-◌, ◌<◌, ◌≤◌, Bool, false, cond, eqb, ltb, max, ⊎_elim, List, [], ◌∷◌, ◌++◌, Some, refl, sym, ◌∙◌, ap, subst, arith, length, get_or, set, drop}
+use Rattle.std.proofs.Common.{◌≡◌, ◌≢◌, ℕ, zero, suc, ◌+◌, ◌-◌, ◌<◌, ◌≤◌, Bool, cond, eqb, ltb, max, ⊎_elim, List, [], ◌∷◌, ◌++◌, refl, sym, ◌∙◌, ap, subst, arith, length, get_or, set}
 use Rattle.std.specs.List.{slice_get, range_with_len, filter}
 use Rattle.std.proofs.lemmas.Bool.{cond_both, cond-true, cond-false, cases_eq, eq-eqb, ne_eqb, ltb-false}
 use Rattle.std.proofs.lemmas.List.{get_or-set_same, get_or-set_other, get_or_read}
-use Rattle.std.proofs.Math.Seq.{drop-cons}
 use Rattle.std.proofs.lemmas.Option.{slice_get_past}
 use Rattle.std.specs.List.{All}
 use Rattle.std.proofs.lemmas.List.Elements.{All-nil, All-cons, All-head, All-tail, All-weaker}
 use Rattle.kin_ids.specs.Types.{Stamp}
-use Rattle.kin_ids.specs.Fair.{Turn, turn, row, rows, longest, enough, last_end}
+use Rattle.kin_ids.specs.Rounds.{waiting_at, row, rows, longest}
 
 pub get_or-set : {X : Type 0} (xs : List X) (i j : ℕ) (v d : X) → i < length xs → get_or (set xs i v) j d ≡ cond (eqb i j) v (get_or xs j d)
 get_or-set xs i j v d lt =
@@ -16,23 +15,8 @@ get_or-set xs i j v d lt =
     (λ (ne : i ≢ j). get_or-set_other xs i j v d (λ e. ne (sym e)) ∙ sym (cond-false (eqb i j) v (get_or xs j d) (ne_eqb i j ne)))
     (cases_eq i j)
 
-pub enough-none : (n : ℕ) (ts : List Turn) → n ≡ 0 → enough n ts ≡ []
-enough-none n [] e = refl
-enough-none n (t ∷ ts) e = rw e refl
-
--- one more node of a row
-pub turn-step : (pending : ℕ → List Stamp) (place n sum : ℕ) (out : List ℕ) (j : ℕ) (s : Stamp) (is : List ℕ) (rest : List Turn) (i : ℕ) → sum < n → j < length out → slice_get (pending j) place ≡ Some s →
-    last_end (get_or (set out j s.to) i 0) i (enough (n - (sum + (s.to - s.from))) (row pending place is ++ rest)) ≡ last_end (get_or out i 0) i (enough (n - sum) (row pending place (j ∷ is) ++ rest))
-turn-step pending place n sum out j s is rest i lt in_range is_s =
-    let left : n - (sum + (s.to - s.from)) ≡ n - sum - (s.to - s.from) = omega arith in
-    let some : eqb (n - sum) 0 ≡ false = ne_eqb _ _ (λ (e : n - sum ≡ 0). omega arith) in
-    rw (is_s, some, get_or-set out j i s.to 0 in_range, left) refl
-
 pub range-step : (a n : ℕ) → a < n → range_with_len a (n - a) ≡ a ∷ range_with_len (a + 1) (n - (a + 1))
 range-step a n lt = let e : n - a ≡ suc (n - (a + 1)) = omega arith in rw e refl
-
-pub row-drop : (pending : ℕ → List Stamp) (place : ℕ) (live : List ℕ) (k : ℕ) (d : ℕ) → k < length live → drop k live ≡ get_or live k d ∷ drop (k + 1) live
-row-drop pending place live k d lt = let e : suc k ≡ k + 1 = omega arith in subst (λ (m : ℕ). drop k live ≡ get_or live k d ∷ drop m live) e (drop-cons live k d lt)
 
 pub longest-step : (lists : List (List Stamp)) (item : List Stamp) (most k : ℕ) → k < length lists → item ≡ get_or lists k item →
     max most (longest (λ (i : ℕ). get_or lists i []) (range_with_len k (length lists - k))) ≡ max (max most (length item)) (longest (λ (i : ℕ). get_or lists i []) (range_with_len (k + 1) (length lists - (k + 1))))
@@ -45,7 +29,7 @@ pub row-filter : (pending : ℕ → List Stamp) (place q : ℕ) (is : List ℕ) 
 row-filter pending place q [] le = refl
 row-filter pending place q (i ∷ is) le =
     cond_both (ltb place (length (pending i))) (i ∷ filter (λ i. ltb place (length (pending i))) is) (filter (λ i. ltb place (length (pending i))) is) (λ js. row pending q js ≡ row pending q (i ∷ is))
-    (λ _. ap (λ ts. turn i (slice_get (pending i) q) ++ ts) (row-filter pending place q is le))
+    (λ _. ap (λ ts. waiting_at i q (slice_get (pending i) q) ++ ts) (row-filter pending place q is le))
     (λ no. let short : length (pending i) ≤ place = ltb-false _ _ no in let none = slice_get_past (pending i) q (omega arith) in rw none (row-filter pending place q is le))
 
 pub All-filter : (P : ℕ → Type 0) (p : ℕ → Bool) (xs : List ℕ) → All P xs → All P (filter p xs)
@@ -69,12 +53,6 @@ in_range a (suc n) = All-cons (λ (i : ℕ). i < a + suc n) a (range_with_len (a
 pub still-live : (pending : ℕ → List Stamp) (all live kept : List ℕ) (place : ℕ) → kept ≡ filter (λ i. ltb place (length (pending i))) live → ((q : ℕ) → place ≤ q → row pending q live ≡ row pending q all) →
     (q : ℕ) → place ≤ q → row pending q kept ≡ row pending q all
 still-live pending all live kept place is before q le = rw is (row-filter pending place q live le ∙ before q le)
-
--- a round takes the next row
-pub round-step : (pending : ℕ → List Stamp) (all kept : List ℕ) (place m n got more : ℕ) (out new : List ℕ) → place < m → row pending place kept ≡ row pending place all →
-    ((rest : List Turn) (i : ℕ) → last_end (get_or new i 0) i (enough (n - more) rest) ≡ last_end (get_or out i 0) i (enough (n - got) (row pending place kept ++ rest))) →
-    (i : ℕ) → last_end (get_or new i 0) i (enough (n - more) (rows pending all (place + 1) (m - (place + 1)))) ≡ last_end (get_or out i 0) i (enough (n - got) (rows pending all place (m - place)))
-round-step pending all kept place m n got more out new lt same ends i = ends _ i ∙ rw (rows-step pending all place m lt, same) refl
 
 pub first_more : (n : ℕ) → range_with_len 0 (n + 1) ≡ range_with_len 0 n ++ n ∷ []
 first_more n = let e : 0 + n ≡ n = omega arith in range-push 0 n ∙ ap (λ (m : ℕ). range_with_len 0 n ++ m ∷ []) e

@@ -12,7 +12,7 @@ use Rattle.kin_ids.specs.declared.ops.Record.TheVariants as record_kind
 use Rattle.kin_ids.specs.Users.{is_before, IsAscending}
 use Rattle.kin_ids.specs.Graph.{Graph, Edge, empty_graph, applied, item_applied, items_applied, is_edge, with_follow, without_follow}
 use Rattle.kin_ids.specs.Order.{Entry, folded}
-use Rattle.kin_ids.specs.Follows.{is_present, was_added, added_at, word, is_follow, last_word, EdgeLaw, IsSound, LaterLaw, AscendLaw}
+use Rattle.kin_ids.specs.Follows.{is_present, was_added, added_at, word, is_follow, last_word, EdgeLaw, IsSound, ContinueLaw, AscendLaw}
 use Rattle.kin_ids.proofs.Edges.{same_ends, is_here, any-with_follow, any-without_follow, here-with_follow, here-without_follow, place-with_follow, place-without_follow}
 use Rattle.kin_ids.proofs.Once.{applied-sound, empty-sound}
 
@@ -82,14 +82,14 @@ one-place at g record_kind.Bad u v = none (added_at g u v)
     none (Some p) = refl
 
 -- all records
-pub later-law : LaterLaw
-later-law g [] u v s = record { present = refl; added = or_false (was_added g u v); place = none (added_at g u v) }
+pub continue-law : ContinueLaw
+continue-law g [] u v s = record { present = refl; added = or_false (was_added g u v); place = none (added_at g u v) }
   where
     none : (o : Option Place) → o ≡ option_or o None
     none None = refl
     none (Some p) = refl
-later-law g (x ∷ xs) u v s =
-    let ih = later-law (applied x.place g x.content) xs u v (applied-sound x.place g x.content s) in
+continue-law g (x ∷ xs) u v s =
+    let ih = continue-law (applied x.place g x.content) xs u v (applied-sound x.place g x.content s) in
     record {
       present = ih.present ∙ (ap (unwrap_or (last_word u v xs)) (one-present x.place g x.content u v s) ∙ words (last_word u v xs) (word u v x.content));
       added = ih.added ∙ rw (one-added x.place g x.content u v) (either (was_added g u v) (is_follow u v x.content) (list_any (λ (y : Entry). is_follow u v y.content) xs));
@@ -110,7 +110,7 @@ later-law g (x ∷ xs) u v s =
     places (Some p) f q = refl
 
 pub edge-law : EdgeLaw
-edge-law xs u v = let told = later-law empty_graph xs u v empty-sound in record { present = told.present; added = told.added; place = told.place }
+edge-law xs u v = let told = continue-law empty_graph xs u v empty-sound in record { present = told.present; added = told.added; place = told.place }
 
 -- the places of edges
 IsAscending-drop : (xs : List Place) (y : Place) (ys : List Place) → IsAscending (xs ++ y ∷ ys) → IsAscending (xs ++ ys)

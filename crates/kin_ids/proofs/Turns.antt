@@ -1,22 +1,23 @@
--- The transactions of all nodes in turn, and fronts of them.
-use Rattle.std.proofs.Common.{◌≡◌, ◌≢◌, ℕ, zero, suc, ◌+◌, ◌-◌, ◌<◌, ◌≤◌, Bool, true, false, cond, eqb, inl, inr, ⊎_elim, List, [], ◌∷◌, ◌++◌, Option, Some, None, refl, sym, ◌∙◌, ap, subst, arith, length, get_or, drop, append_assoc}
-use Rattle.std.proofs.lemmas.Bool.{cond_both, eqb-true, eqb-false, cases_eq, eq-eqb, ne_eqb, cases_lt}
-use Rattle.std.proofs.lemmas.List.{length-append, append-nil}
-use Rattle.std.proofs.Math.Seq.{drop-cons}
-use Rattle.std.specs.List.{slice_get, range_with_len}
-use Rattle.std.proofs.lemmas.Option.{slice_get_past, slice_get-get_or}
+-- Fronts of the transactions in turn, and where a fair cut ends a node.
+use Rattle.std.proofs.Common.{◌≡◌, ◌≢◌, ℕ, zero, suc, ◌+◌, ◌-◌, ◌<◌, ◌≤◌, ◌⊎◌, Bool, true, false, cond, eqb, inl, inr, ⊎_elim, List, [], ◌∷◌, ◌++◌, refl, sym, ◌∙◌, ap, subst, arith, length}
+use Rattle.std.specs.Prelude.{map, All}
+use Rattle.std.specs.List.{list_all, AllByRecursion}
+use Rattle.std.proofs.lemmas.Bool.{cond_both, and_parts, and_from, eqb-true, eqb-false, cases_lt}
+use Rattle.std.proofs.lemmas.List.{length-append, map-append}
+use Rattle.std.proofs.lemmas.List.Elements.{filter-append, All-head, All-tail}
 use Rattle.kin_ids.specs.Types.{Stamp}
 use Rattle.kin_ids.specs.Lines.{end_of, IsEnd}
-use Rattle.kin_ids.specs.Fair.{Turn, turn, row, rows, longest, in_turn, size, records, enough, last_end, fair, IsShortest, ShortestLaw, of_node, InTurnLaw}
+use Rattle.kin_ids.specs.Fair.{Waiting, waiting_from, all_waiting, goes_first, put_in, ordered, in_turn, size, records, enough, last_end, fair, of_node, IsByNumber, IsShortest, ShortestLaw, IsSized, FewLaw, count_of, EvenLaw}
+use Rattle.kin_ids.proofs.InTurn.{first-low, all-of, in_turn-law}
 
-no_last : (shorter last : List Turn) → [] ≡ shorter ++ last → 0 < length last → ⊥
+no_last : (shorter last : List Waiting) → [] ≡ shorter ++ last → 0 < length last → ⊥
 no_last shorter last e lt = let n : 0 ≡ length shorter + length last = ap length e ∙ length-append shorter last in absurd (omega arith)
 
-abbrev tail_of : List Turn → List Turn
+abbrev tail_of : List Waiting → List Waiting
 tail_of [] = []
 tail_of (t ∷ ts) = ts
 
-abbrev head_or : Turn → List Turn → Turn
+abbrev head_or : Waiting → List Waiting → Waiting
 head_or d [] = d
 head_or d (t ∷ ts) = t
 
@@ -33,112 +34,154 @@ shortest-law n (t ∷ ts) = go (eqb n 0) refl (shortest-law (n - size t.stamp) t
       shortest = shorter_by;
     }
       where
-        shorter_by : (shorter last : List Turn) → t ∷ enough (n - size t.stamp) ts ≡ shorter ++ last → 0 < length last → records shorter < n
+        shorter_by : (shorter last : List Waiting) → t ∷ enough (n - size t.stamp) ts ≡ shorter ++ last → 0 < length last → records shorter < n
         shorter_by [] last same lt = let some : n ≢ 0 = eqb-false _ _ e in omega arith
         shorter_by (x ∷ shorter) last same lt =
             let less : records shorter < n - size t.stamp = ih.shortest shorter last (ap tail_of same) lt in
             let one : t ≡ x = ap (head_or t) same in
-            let alike : size t.stamp ≡ size x.stamp = ap (λ (u : Turn). size u.stamp) one in
+            let alike : size t.stamp ≡ size x.stamp = ap (λ (u : Waiting). size u.stamp) one in
             omega arith
 
-abbrev one_of : Option Stamp → List Stamp
-one_of None = []
-one_of (Some s) = s ∷ []
+pub enough-none : (n : ℕ) (ts : List Waiting) → n ≡ 0 → enough n ts ≡ []
+enough-none n [] e = refl
+enough-none n (t ∷ ts) e = rw e refl
 
-pub last-is : (at i : ℕ) (ts : List Turn) → last_end at i ts ≡ end_of at (of_node i ts)
+-- a node's end is that of its stamps
+abbrev stamps : List Waiting → List Stamp
+stamps ts = map (λ (t : Waiting). t.stamp) ts
+
+last-is : (at i : ℕ) (ts : List Waiting) → last_end at i ts ≡ end_of at (stamps (of_node i ts))
 last-is at i [] = refl
-last-is at i (t ∷ ts) = cond_both (eqb t.node i) (t.stamp ∷ of_node i ts) (of_node i ts) (λ xs. last_end (cond (eqb t.node i) t.stamp.to at) i ts ≡ end_of at xs)
+last-is at i (t ∷ ts) = cond_both (eqb t.node i) (t ∷ of_node i ts) (of_node i ts) (λ xs. last_end (cond (eqb t.node i) t.stamp.to at) i ts ≡ end_of at (stamps xs))
     (λ e. rw e (last-is t.stamp.to i ts)) (λ e. rw e (last-is at i ts))
 
-pub of-append : (i : ℕ) (xs ys : List Turn) → of_node i (xs ++ ys) ≡ of_node i xs ++ of_node i ys
-of-append i [] ys = refl
-of-append i (t ∷ xs) ys = cond_both (eqb t.node i) (t.stamp ∷ of_node i xs) (of_node i xs) (λ vs. of_node i (t ∷ xs ++ ys) ≡ vs ++ of_node i ys)
-    (λ e. rw e (ap (λ vs. t.stamp ∷ vs) (of-append i xs ys))) (λ e. rw e (of-append i xs ys))
-
-of-turn : (i : ℕ) (o : Option Stamp) → of_node i (turn i o) ≡ one_of o
-of-turn i None = refl
-of-turn i (Some s) = let e : eqb i i ≡ true = eq-eqb i i refl in rw e refl
-
-of-other : (i j : ℕ) (o : Option Stamp) → j ≢ i → of_node i (turn j o) ≡ []
-of-other i j None ne = refl
-of-other i j (Some s) ne = let e : eqb j i ≡ false = ne_eqb j i ne in rw e refl
-
-of-later : (pending : ℕ → List Stamp) (r a n i : ℕ) → i < a → of_node i (row pending r (range_with_len a n)) ≡ []
-of-later pending r a zero i lt = refl
-of-later pending r a (suc n) i lt = of-append i (turn a (slice_get (pending a) r)) (row pending r (range_with_len (a + 1) n))
-    ∙ rw (of-other i a (slice_get (pending a) r) (λ e. omega arith)) (of-later pending r (a + 1) n i (omega arith))
-
-of-row : (pending : ℕ → List Stamp) (r a n i : ℕ) → a ≤ i → i < a + n → of_node i (row pending r (range_with_len a n)) ≡ one_of (slice_get (pending i) r)
-of-row pending r a zero i le lt = absurd (omega arith)
-of-row pending r a (suc n) i le lt =
-    of-append i (turn a (slice_get (pending a) r)) (row pending r (range_with_len (a + 1) n))
-    ∙ ⊎_elim (λ (e : a ≡ i). subst (λ (k : ℕ). of_node k (turn a (slice_get (pending a) r)) ++ of_node k (row pending r (range_with_len (a + 1) n)) ≡ one_of (slice_get (pending k) r)) e
-    (rw (of-turn a (slice_get (pending a) r), of-later pending r (a + 1) n a (omega arith)) (append-nil (one_of (slice_get (pending a) r)))))
-    (λ (ne : a ≢ i). rw (of-other i a (slice_get (pending a) r) ne) (of-row pending r (a + 1) n i (omega arith) (omega arith)))
-    (cases_eq a i)
-
-drop-past : (xs : List Stamp) (r : ℕ) → length xs ≤ r → drop r xs ≡ []
-drop-past [] zero le = refl
-drop-past [] (suc r) le = refl
-drop-past (x ∷ xs) zero le = absurd (omega arith)
-drop-past (x ∷ xs) (suc r) le = drop-past xs r (omega arith)
-
-drop-step : (xs : List Stamp) (d : Stamp) (r : ℕ) → one_of (slice_get xs r) ++ drop (r + 1) xs ≡ drop r xs
-drop-step xs d r = let next : suc r ≡ r + 1 = omega arith in
-    ⊎_elim (λ (lt : r < length xs). rw (slice_get-get_or xs r d lt) (subst (λ (m : ℕ). get_or xs r d ∷ drop m xs ≡ drop r xs) next (sym (drop-cons xs r d lt))))
-    (λ (le : length xs ≤ r). rw (slice_get_past xs r le, drop-past xs r le, drop-past xs (r + 1) (omega arith)) refl)
-    (cases_lt r (length xs))
-
-of-rows : (pending : ℕ → List Stamp) (d : Stamp) (n i r k : ℕ) → i < n → of_node i (rows pending (range_with_len 0 n) r k) ++ drop (r + k) (pending i) ≡ drop r (pending i)
-of-rows pending d n i r zero lt = let e : r + 0 ≡ r = omega arith in rw e refl
-of-rows pending d n i r (suc k) lt =
-    let e : r + suc k ≡ r + 1 + k = omega arith in
-    let first : of_node i (row pending r (range_with_len 0 n)) ≡ one_of (slice_get (pending i) r) = of-row pending r 0 n i (omega arith) (omega arith) in
-    rw (e, of-append i (row pending r (range_with_len 0 n)) (rows pending (range_with_len 0 n) (r + 1) k), first)
-    (append_assoc (one_of (slice_get (pending i) r)) (of_node i (rows pending (range_with_len 0 n) (r + 1) k)) (drop (r + 1 + k) (pending i))
-    ∙ (ap (λ vs. one_of (slice_get (pending i) r) ++ vs) (of-rows pending d n i (r + 1) k lt) ∙ drop-step (pending i) d r))
-
-longest-ge : (pending : ℕ → List Stamp) (a n i : ℕ) → a ≤ i → i < a + n → length (pending i) ≤ longest pending (range_with_len a n)
-longest-ge pending a zero i le lt = absurd (omega arith)
-longest-ge pending a (suc n) i le lt =
-    ⊎_elim (λ (e : a ≡ i). let same : length (pending a) ≡ length (pending i) = ap (λ (k : ℕ). length (pending k)) e in omega arith)
-    (λ (ne : a ≢ i). let ih = longest-ge pending (a + 1) n i (omega arith) (omega arith) in omega arith)
-    (cases_eq a i)
-
-some_stamp : Stamp
-some_stamp = record { ingest = record { 0 = 0 }; inc = record { 0 = 0 }; from = 0; to = 0 }
-
-pub in_turn-is : InTurnLaw
-in_turn-is pending nodes i lt =
-    let m = longest pending (range_with_len 0 nodes) in
-    let long : length (pending i) ≤ m = longest-ge pending 0 nodes i (omega arith) (omega arith) in
-    let none : drop (0 + m) (pending i) ≡ [] = drop-past (pending i) (0 + m) (omega arith) in
-    sym (append-nil (of_node i (in_turn pending nodes))) ∙ (ap (λ vs. of_node i (in_turn pending nodes) ++ vs) (sym none) ∙ of-rows pending some_stamp nodes i 0 m lt)
+stamps-from : (i n : ℕ) (ss : List Stamp) → stamps (waiting_from i n ss) ≡ ss
+stamps-from i n [] = refl
+stamps-from i n (s ∷ ss) = ap (λ xs. s ∷ xs) (stamps-from i (n + 1) ss)
 
 pub front-end_of : (at : ℕ) (xs ys : List Stamp) → IsEnd at (xs ++ ys) (end_of at xs)
 front-end_of at [] [] = refl
 front-end_of at [] (y ∷ ys) = inl refl
 front-end_of at (x ∷ xs) ys = inr (front-end_of x.to xs ys)
 
+of-append : (i : ℕ) (xs ys : List Waiting) → of_node i (xs ++ ys) ≡ of_node i xs ++ of_node i ys
+of-append i xs ys = filter-append (λ (t : Waiting). eqb t.node i) xs ys
+
+-- what is taken of a node and what is left are its pending transactions
+taken-left : (pending : ℕ → List Stamp) (nodes n i : ℕ) → i < nodes →
+    of_node i (enough n (in_turn pending nodes)) ++ of_node i (shortest-law n (in_turn pending nodes)).rest ≡ waiting_from i 0 (pending i)
+taken-left pending nodes n i lt =
+    let s = shortest-law n (in_turn pending nodes) in
+    sym (of-append i (enough n (in_turn pending nodes)) s.rest) ∙ (ap (of_node i) (sym s.front) ∙ (in_turn-law pending nodes).each i lt)
+
 -- where a fair cut ends a node is an end of its pending line
 pub fair-end : (prev : ℕ → ℕ) (pending : ℕ → List Stamp) (nodes n i : ℕ) → i < nodes → IsEnd (prev i) (pending i) (fair prev pending nodes n i)
 fair-end prev pending nodes n i lt =
-    let s = shortest-law n (in_turn pending nodes) in
-    let is : pending i ≡ of_node i (enough n (in_turn pending nodes)) ++ of_node i s.rest = sym (in_turn-is pending nodes i lt) ∙ (ap (of_node i) s.front ∙ of-append i (enough n (in_turn pending nodes)) s.rest) in
-    rw (last-is (prev i) i (enough n (in_turn pending nodes))) (subst (λ xs. IsEnd (prev i) xs (end_of (prev i) (of_node i (enough n (in_turn pending nodes))))) (sym is) (front-end_of (prev i) (of_node i (enough n (in_turn pending nodes))) (of_node i s.rest)))
+    let taken = of_node i (enough n (in_turn pending nodes)) in
+    let left = of_node i (shortest-law n (in_turn pending nodes)).rest in
+    let is : pending i ≡ stamps taken ++ stamps left =
+    sym (stamps-from i 0 (pending i)) ∙ (ap stamps (sym (taken-left pending nodes n i lt)) ∙ map-append (λ (t : Waiting). t.stamp) taken left) in
+    rw (last-is (prev i) i (enough n (in_turn pending nodes))) (subst (λ xs. IsEnd (prev i) xs (end_of (prev i) (stamps taken))) (sym is) (front-end_of (prev i) (stamps taken) (stamps left)))
 
 -- what is pending below the number of nodes decides
-row-alike : (f g : ℕ → List Stamp) (r a n : ℕ) → ((i : ℕ) → i < a + n → f i ≡ g i) → row f r (range_with_len a n) ≡ row g r (range_with_len a n)
-row-alike f g r a zero h = refl
-row-alike f g r a (suc n) h = rw (h a (omega arith)) (ap (λ ts. turn a (slice_get (g a) r) ++ ts) (row-alike f g r (a + 1) n (λ i lt. h i (omega arith))))
-
-longest-alike : (f g : ℕ → List Stamp) (a n : ℕ) → ((i : ℕ) → i < a + n → f i ≡ g i) → longest f (range_with_len a n) ≡ longest g (range_with_len a n)
-longest-alike f g a zero h = refl
-longest-alike f g a (suc n) h = rw (h a (omega arith), longest-alike f g (a + 1) n (λ i lt. h i (omega arith))) refl
-
-rows-alike : (f g : ℕ → List Stamp) (n r k : ℕ) → ((i : ℕ) → i < n → f i ≡ g i) → rows f (range_with_len 0 n) r k ≡ rows g (range_with_len 0 n) r k
-rows-alike f g n r zero h = refl
-rows-alike f g n r (suc k) h = rw (row-alike f g r 0 n (λ i lt. h i (omega arith)), rows-alike f g n (r + 1) k h) refl
+all-alike : (f g : ℕ → List Stamp) (n : ℕ) → ((i : ℕ) → i < n → f i ≡ g i) → all_waiting f n ≡ all_waiting g n
+all-alike f g zero h = refl
+all-alike f g (suc n) h = rw (all-alike f g n (λ i lt. h i (omega arith)), h n (omega arith)) refl
 
 pub fair-alike : (p q : ℕ → ℕ) (f g : ℕ → List Stamp) (nodes n i : ℕ) → p i ≡ q i → ((j : ℕ) → j < nodes → f j ≡ g j) → fair p f nodes n i ≡ fair q g nodes n i
-fair-alike p q f g nodes n i e h = rw (e, longest-alike f g 0 nodes (λ j lt. h j (omega arith)), rows-alike f g nodes 0 (longest g (range_with_len 0 nodes)) h) refl
+fair-alike p q f g nodes n i e h = rw (e, all-alike f g nodes h) refl
+
+-- a cut has few records
+abbrev Sized : Waiting → Type 0
+Sized t = IsSized t.stamp
+
+sized-from : (i n : ℕ) (ss : List Stamp) → All IsSized ss → AllByRecursion Sized (waiting_from i n ss)
+sized-from i n [] all = tt
+sized-from i n (s ∷ ss) all = (All-head IsSized s ss all, sized-from i (n + 1) ss (All-tail IsSized s ss all))
+
+sized-append : (xs ys : List Waiting) → AllByRecursion Sized xs → AllByRecursion Sized ys → AllByRecursion Sized (xs ++ ys)
+sized-append [] ys a b = b
+sized-append (x ∷ xs) ys a b = (a.0, sized-append xs ys a.1 b)
+
+sized-all : (pending : ℕ → List Stamp) (n : ℕ) → ((i : ℕ) → i < n → All IsSized (pending i)) → AllByRecursion Sized (all_waiting pending n)
+sized-all pending zero all = tt
+sized-all pending (suc n) all = sized-append (all_waiting pending n) (waiting_from n 0 (pending n)) (sized-all pending n (λ i lt. all i (omega arith))) (sized-from n 0 (pending n) (all n (omega arith)))
+
+sized-put_in : (x : Waiting) (ts : List Waiting) → Sized x → AllByRecursion Sized ts → AllByRecursion Sized (put_in x ts)
+sized-put_in x [] h all = (h, tt)
+sized-put_in x (y ∷ ys) h all = cond_both (goes_first x y) (x ∷ y ∷ ys) (y ∷ put_in x ys) (AllByRecursion Sized) (λ _. (h, all)) (λ _. (all.0, sized-put_in x ys h all.1))
+
+sized-ordered : (xs : List Waiting) → AllByRecursion Sized xs → AllByRecursion Sized (ordered xs)
+sized-ordered [] all = tt
+sized-ordered (x ∷ xs) all = sized-put_in x (ordered xs) all.0 (sized-ordered xs all.1)
+
+few-records : (n : ℕ) (ts : List Waiting) → AllByRecursion Sized ts → records (enough n ts) ≤ n + 15
+few-records n [] all = omega arith
+few-records n (t ∷ ts) all =
+    let few = all.0.few in
+    let ih = few-records (n - size t.stamp) ts all.1 in
+    cond_both (eqb n 0) [] (t ∷ enough (n - size t.stamp) ts) (λ us. records us ≤ n + 15) (λ _. omega arith)
+    (λ e. let some : n ≢ 0 = eqb-false _ _ e in
+    ⊎_elim (λ (lt : size t.stamp < n). omega arith)
+    (λ (le : n ≤ size t.stamp).
+    let none : records (enough (n - size t.stamp) ts) ≡ 0 = ap records (enough-none (n - size t.stamp) ts (omega arith)) in omega arith)
+    (cases_lt (size t.stamp) n))
+
+pub few-law : FewLaw
+few-law pending nodes n sized = few-records n (in_turn pending nodes) (sized-ordered (all_waiting pending nodes) (sized-all pending nodes sized))
+
+-- a cut is even
+all-before : (xs ys : List Waiting) (z : Waiting) (p : Waiting → Bool) → IsByNumber (xs ++ ys) → ((x : Waiting) → list_all (goes_first x) ys ≡ true → p x ≡ true) → list_all p xs ≡ true
+all-before [] ys z p b h = refl
+all-before (x ∷ xs) ys z p b h = and_from _ _ (h x (after x xs ys b.0)) (all-before xs ys z p b.1 h)
+  where
+    after : (x : Waiting) (xs ys : List Waiting) → list_all (goes_first x) (xs ++ ys) ≡ true → list_all (goes_first x) ys ≡ true
+    after x [] ys all = all
+    after x (y ∷ xs) ys all = after x xs ys (and_parts (goes_first x y) (list_all (goes_first x) (xs ++ ys)) all).1
+
+-- the number of the first that is left is how many are taken
+number-left : (i n : ℕ) (ss : List Stamp) (xs ys : List Waiting) (z : Waiting) → xs ++ z ∷ ys ≡ waiting_from i n ss → z.number ≡ n + length xs
+number-left i n [] [] ys z e = let no : suc (length ys) ≡ 0 = ap length e in absurd (omega arith)
+number-left i n [] (x ∷ xs) ys z e = let no : suc (length (xs ++ z ∷ ys)) ≡ 0 = ap length e in absurd (omega arith)
+number-left i n (s ∷ ss) [] ys z e = let is : z.number ≡ n = ap (λ ts. (head_or z ts).number) e in omega arith
+number-left i n (s ∷ ss) (x ∷ xs) ys z e = let ih = number-left i (n + 1) ss xs ys z (ap tail_of e) in omega arith
+
+-- where all that are taken have numbers up to one, so many are taken at most
+count-below : (j n m : ℕ) (ss : List Stamp) (xs ys : List Waiting) (z : Waiting) → xs ++ ys ≡ waiting_from j n ss → list_all (λ t. goes_first t z) xs ≡ true → (length xs ≡ 0) ⊎ (n + length xs ≤ z.number + 1)
+count-below j n m ss [] ys z e all = inl refl
+count-below j n m [] (x ∷ xs) ys z e all = let no : suc (length (xs ++ ys)) ≡ 0 = ap length e in absurd (omega arith)
+count-below j n m (s ∷ ss) (x ∷ xs) ys z e all =
+    let parts = and_parts (goes_first x z) (list_all (λ t. goes_first t z) xs) all in
+    let is : x.number ≡ n = ap (λ ts. (head_or x ts).number) e in
+    let low = first-low x z parts.0 in
+    ⊎_elim (λ (none : length xs ≡ 0). inr (omega arith)) (λ (few : n + 1 + length xs ≤ z.number + 1). inr (omega arith))
+    (count-below j (n + 1) m ss xs ys z (ap tail_of e) parts.1)
+
+pub even-law : EvenLaw
+even-law pending nodes n i j i_lt j_lt =
+    let s = shortest-law n (in_turn pending nodes) in
+    go (of_node i s.rest) refl
+  where
+    taken : List Waiting
+    taken = enough n (in_turn pending nodes)
+
+    go : (left : List Waiting) → of_node i (shortest-law n (in_turn pending nodes)).rest ≡ left → (count_of j taken ≤ count_of i taken + 1) ⊎ (count_of i taken ≡ length (pending i))
+    go [] e =
+        let all : stamps (of_node i taken) ≡ pending i = ap stamps (sym (append-nothing (of_node i taken)) ∙ (ap (λ zs. of_node i taken ++ zs) (sym e) ∙ taken-left pending nodes n i i_lt)) ∙ stamps-from i 0 (pending i) in
+        inr (sym (length-stamps (of_node i taken)) ∙ ap length all)
+      where
+        append-nothing : (xs : List Waiting) → xs ++ [] ≡ xs
+        append-nothing [] = refl
+        append-nothing (x ∷ xs) = ap (λ ys. x ∷ ys) (append-nothing xs)
+
+        length-stamps : (xs : List Waiting) → length (stamps xs) ≡ length xs
+        length-stamps [] = refl
+        length-stamps (x ∷ xs) = ap suc (length-stamps xs)
+    go (z ∷ zs) e =
+        let s = shortest-law n (in_turn pending nodes) in
+        let number : z.number ≡ 0 + count_of i taken = number-left i 0 (pending i) (of_node i taken) zs z (ap (λ us. of_node i taken ++ us) (sym e) ∙ taken-left pending nodes n i i_lt) in
+        let by : IsByNumber (taken ++ s.rest) = subst IsByNumber s.front (in_turn-law pending nodes).by_number in
+        let before : list_all (λ t. goes_first t z) taken ≡ true = all-before taken s.rest z (λ t. goes_first t z) by
+        (λ x all. (and_parts (goes_first x z) (list_all (goes_first x) zs) (subst (λ us. list_all (goes_first x) us ≡ true) e (all-of (goes_first x) i s.rest all))).0) in
+        inl (⊎_elim (λ (none : count_of j taken ≡ 0). omega arith) (λ (few : 0 + count_of j taken ≤ z.number + 1). omega arith)
+        (count-below j 0 0 (pending j) (of_node j taken) (of_node j s.rest) z (taken-left pending nodes n j j_lt) (all-of (λ t. goes_first t z) j taken before)))

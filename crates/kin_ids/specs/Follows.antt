@@ -8,13 +8,15 @@ use Rattle.kin_ids.specs.Users.{same_user, same_tag, IsAscending}
 use Rattle.kin_ids.specs.Graph.{Graph, empty_graph, is_edge, is_mention, is_use, outs, ins, mentions_of, mentioners_of, uses_of, tag_users}
 use Rattle.kin_ids.specs.Order.{Entry, folded}
 
--- whether the edge from u to v is present, whether it was ever added, and where it was first
+-- whether the edge from u to v is present
 abbrev pub is_present : Graph → User → User → Bool
 is_present g u v = list_any (λ e. is_edge u v e && e.present) g.edges
 
+-- whether it was ever added
 abbrev pub was_added : Graph → User → User → Bool
 was_added g u v = list_any (is_edge u v) g.edges
 
+-- where it was first added
 abbrev pub added_at : Graph → User → User → Option Place
 added_at g u v = option_map (λ e. e.added) (find (is_edge u v) g.edges)
 
@@ -25,14 +27,16 @@ word u v (record_kind.Unfollow a b) = if same_user u a && same_user v b then Som
 word u v (record_kind.Tweet a items) = None
 word u v record_kind.Bad = None
 
+-- whether a record is a follow of v by u
 abbrev pub is_follow : User → User → Record → Bool
 is_follow u v r = unwrap_or (word u v r) false
 
--- what the last follow or unfollow of the edge among these says, and the place of the first follow
+-- what the last follow or unfollow of the edge among these says
 abbrev pub last_word : User → User → List Entry → Option Bool
 last_word u v [] = None
 last_word u v (x ∷ xs) = option_or (last_word u v xs) (word u v x.content)
 
+-- the place of the first follow
 abbrev pub first_follow : User → User → List Entry → Option Place
 first_follow u v xs = option_map (λ x. x.place) (find (λ x. is_follow u v x.content) xs)
 
@@ -66,8 +70,8 @@ pub record IsToldOn (g : Graph) (xs : List Entry) (u v : User) : Type 0 where
   pub added : was_added (folded g xs) u v ≡ (was_added g u v || list_any (λ x. is_follow u v x.content) xs)
   pub place : added_at (folded g xs) u v ≡ option_or (added_at g u v) (first_follow u v xs)
 
-abbrev pub LaterLaw : Type 0
-LaterLaw = (g : Graph) (xs : List Entry) (u v : User) → IsSound g → IsToldOn g xs u v
+abbrev pub ContinueLaw : Type 0
+ContinueLaw = (g : Graph) (xs : List Entry) (u v : User) → IsSound g → IsToldOn g xs u v
 
 -- where the records' places ascend so do the edges'
 abbrev pub AscendLaw : Type 0

@@ -1,8 +1,7 @@
 -- The agreed order of records, and the snapshots that it folds to.
-use Rattle.std.specs.Prelude.{ℕ, zero, suc, ◌+◌, ◌-◌, List, [], ◌∷◌, ◌++◌, take, drop, length, slice_index_or}
+use Rattle.std.specs.Prelude.{ℕ, zero, suc, ◌+◌, ◌-◌, nat_le, List, [], ◌∷◌, ◌++◌, filter, take, drop, length, slice_index_or}
 use Rattle.kin_ids.specs.Types.{Place, Record, Stamp}
 use Rattle.kin_ids.specs.Graph.{Graph, empty_graph, applied}
-use Rattle.kin_ids.specs.Lines.{upto}
 
 -- a record at its place
 pub record Entry : Type 0 where
@@ -41,6 +40,6 @@ folded g (x ∷ xs) = folded (applied x.place g x.content) xs
 abbrev pub snapshot : List (List Record) → (ℕ → ℕ → ℕ) → ℕ → Graph
 snapshot feeds vectors k = folded empty_graph (order feeds vectors k)
 
--- the transactions of node i within vector k
+-- the transactions of node i within vector k: those of its line that end at or before its position there
 abbrev pub within : (ℕ → List Stamp) → (ℕ → ℕ → ℕ) → ℕ → ℕ → List Stamp
-within lines vectors k i = upto (vectors k i) (lines i)
+within lines vectors k i = filter (λ s. nat_le s.to (vectors k i)) (lines i)

@@ -6,12 +6,12 @@ use Rattle.kin_ids.specs.Order.{entries, folded}
 use Rattle.kin_ids.specs.Operations.{op_part, record_ops, numbered, part_ops, stamp_records}
 use Rattle.kin_ids.specs.Parts.{PartView, IsPart, ops_applied}
 
--- a part with nothing
-abbrev pub empty_part : PartView
-empty_part = record { out = λ u. []; inn = λ u. []; mentions = λ u. []; mentioners = λ u. []; said = λ u. 0; uses = λ u. []; tag_users = λ t. [] }
+-- the view of a part with nothing
+abbrev pub empty_view : PartView
+empty_view = record { out = λ u. []; inn = λ u. []; mentions = λ u. []; mentioners = λ u. []; said = λ u. 0; uses = λ u. []; tag_users = λ t. [] }
 
 abbrev pub EmptyLaw : Type 0
-EmptyLaw = (parts p : ℕ) → IsPart parts p empty_graph empty_part
+EmptyLaw = (parts p : ℕ) → IsPart parts p empty_graph empty_view
 
 -- one record, the n-th of node i's feed, in epoch e
 abbrev pub RecordLaw : Type 0

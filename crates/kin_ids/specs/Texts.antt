@@ -1,10 +1,10 @@
 -- Users and tags as texts.
-use Rattle.std.specs.Prelude.{ℕ, ◌≡◌, ◌<◌, ◌==◌, ◌&&◌, ◌||◌, ◌^◌, nat_le, nat_lt, Bool, List, length, Option, Some, None, if◌then◌else◌, slice_index}
-use Rattle.std.specs.List.{list_all}
+use Rattle.std.specs.Prelude.{ℕ, ◌≡◌, ◌<◌, ◌==◌, ◌&&◌, ◌||◌, ◌^◌, nat_lt, Bool, List, length, Option, Some, None, if◌then◌else◌, slice_index}
 use Rattle.std.specs.Str.{bytes_eq}
 use Rattle.std.specs.Str.Parse.{digits_value}
 use Rattle.std.specs.Fmt.{decimal}
 use Rattle.kin_ids.specs.Types.{User}
+pub use Rattle.kin_ids.specs.TagTexts.{is_tag_byte, is_tag, tag_of}
 
 -- the number below a bound whose decimal text this is: no sign, no leading zero
 abbrev pub number_of : ℕ → List ℕ → Option ℕ
@@ -14,6 +14,7 @@ number_of bound text = if bytes_eq (decimal (digits_value 10 text)) text && nat_
 abbrev pub has_needless_front : List ℕ → Bool
 has_needless_front text = slice_index text 0 == 43 || (slice_index text 0 == 48 && nat_lt 1 (length text))
 
+-- the user of a number
 abbrev pub as_user : Option ℕ → Option User
 as_user None = None
 as_user (Some n) = Some (record { 0 = n })
@@ -28,14 +29,3 @@ NumberLaw = (n : ℕ) → n < 2 ^ 64 → number_of (2 ^ 64) (decimal n) ≡ Some
 
 abbrev pub UserLaw : Type 0
 UserLaw = (u : User) → u.0 < 2 ^ 32 → user_of (decimal u.0) ≡ Some u
-
--- a letter from a to z, a digit, or the low line
-abbrev pub is_tag_byte : ℕ → Bool
-is_tag_byte b = (nat_le 97 b && nat_le b 122) || ((nat_le 48 b && nat_le b 57) || b == 95)
-
--- a tag is a text of 1 to 24 such characters
-abbrev pub is_tag : List ℕ → Bool
-is_tag text = (nat_le 1 (length text) && nat_le (length text) 24) && list_all is_tag_byte text
-
-abbrev pub tag_of : List ℕ → Option (List ℕ)
-tag_of text = if is_tag text then Some text else None

@@ -10,6 +10,7 @@ pub use Rattle.kin_ids.specs.declared.stamps.End.{End}
 pub use Rattle.kin_ids.specs.declared.ops.Item.{Item}
 pub use Rattle.kin_ids.specs.declared.ops.Record.{Record}
 pub use Rattle.kin_ids.specs.declared.ops.Op.{Op}
+pub use Rattle.kin_ids.specs.declared.ops.Subject.{Subject}
 pub use Rattle.kin_ids.specs.declared.ops.Numbered.{Numbered}
 pub use Rattle.kin_ids.specs.declared.ops.Piece.{Piece}
 pub use Rattle.kin_ids.specs.declared.ops.Half.{Half}

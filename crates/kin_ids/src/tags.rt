@@ -1,6 +1,6 @@
 //! Tags: short texts, held in place.
 
-ghost use Rattle.std.specs.Prelude.{◌≡◌, ◌≤◌, length, Some, nat_eq, refl};
+ghost use Rattle.std.specs.Prelude.{◌≡◌, Some, nat_eq, refl, true};
 ghost use Rattle.std.specs.Ordering.{nat_cmp};
 ghost use Rattle.std.specs.Cmp.{on_equiv, on_total, on_po, on_per, partial_equiv_from_equiv};
 ghost use Rattle.std.specs.Cmp.Lexicographic.{pointwise, slice_cmp, nat_list_eq_equiv, nat_list_cmp_total, texts_po, texts_ties};
@@ -14,7 +14,7 @@ use std::cmp::Ordering;
 use std::hash::{Hash, Hasher};
 use std::marker::Model;
 
-/// A tag of up to 24 bytes, seen as its bytes. Tags are ordered as texts.
+/// A tag of 1 to 24 bytes of `a` to `z`, `0` to `9` and `_`, seen as its bytes. Tags are ordered as texts.
 #[derive(Clone, Copy, Debug)]
 pub struct Tag {
     bytes: [u8; 24],
@@ -26,15 +26,15 @@ impl Model for Tag {
 
     ghost Value = { List ℕ };
 
-    ghost use Rattle.kin_ids.specs.TagBytes.{IsPadded, padded_back};
+    ghost use Rattle.kin_ids.specs.TagBytes.{HoldsTag, padded_back};
 
     ghost view = { λ a. take a.len a.bytes };
 
-    ghost invariant = { λ a. IsPadded a.bytes a.len };
+    ghost invariant = { λ a. HoldsTag a.bytes a.len };
 
     ghost inverse = { λ t. record { bytes = t ++ replicate (24 - length t) 0; len = length t } };
 
-    ghost inverse_ok = { λ a h. padded_back a h };
+    ghost inverse_ok = { λ a h. padded_back a h.padded };
 }
 
 fn is_tag_byte(byte: u8) -> bool
@@ -67,16 +67,17 @@ impl Tag {
         }
     }
 
-    /// Its bytes.
+    /// Its bytes, of the form of a tag. It takes no memory.
     pub fn bytes(&self) -> &[u8]
-        ensures { result.now ≡ self.now }
+        ensures value { result.now ≡ self.now }
+        ensures form { texts.is_tag self.now ≡ true }
     {
         &self.bytes[..usize::from(self.len)]
     }
 
-    // The tag of a text of at most 24 bytes.
+    // The tag of a text of this form.
     fn of(text: &[u8]) -> Tag
-        requires { length text.now ≤ 24 }
+        requires { texts.is_tag text.now ≡ true }
         ensures { result ≡ text.now }
     {
         let mut bytes = [0; 24];

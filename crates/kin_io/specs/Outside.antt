@@ -1,5 +1,5 @@
 -- What a shelf gives and a sink takes, and why a call failed.
-use Rattle.std.specs.Prelude.{◌≡◌, ◌+◌, ◌-◌, ◌==◌, ◌<◌, ◌≤◌, ◌^◌, ◌++◌, ◌↔◌, ℕ, Bool, false, List, Option, option_map, IfSome, Result, OnErr, min, length, take, drop, if◌then◌else◌}
+use Rattle.std.specs.Prelude.{◌≡◌, ◌+◌, ◌-◌, ◌==◌, ◌<◌, ◌≤◌, ◌^◌, ◌++◌, ◌↔◌, ℕ, Bool, false, List, Option, option_map, IfSome, Result, OnOk, OnErr, min, length, take, drop, if◌then◌else◌}
 
 -- the bytes grew by these, where they are told
 abbrev pub Grew : Option (List ℕ) → Option (List ℕ) → List ℕ → Type 0
@@ -25,10 +25,11 @@ FlushedAfterSome was now bytes = (n : ℕ) × (n ≤ length bytes) × (now ≡ f
 abbrev pub Rose : ℕ → ℕ → Type 0
 Rose before now = min (before + 1) (2 ^ 64 - 1) ≤ now
 
--- the count never falls, and a failure comes only where it rose
+-- the count never falls, a failure comes only where it rose, and it rises only where there is one
 pub record HasCause {T E : Type 0} (before now : ℕ) (result : Result T E) : Type 0 where
   pub later : before ≤ now
   pub failed : OnErr result (Rose before now)
+  pub calm : OnOk result (now ≡ before)
 
 -- the front of the buffer has n bytes of the file from a place on; where the buffer isn't empty, n is 0 exactly at the file's end
 abbrev pub ReadsFile : List ℕ → ℕ → ℕ → List ℕ → List ℕ → Type 0

@@ -1,6 +1,7 @@
 //! The files of the system: a trusted edge.
 
-ghost use Rattle.std.specs.Prelude.{◌≡◌, ◌≤◌, ℕ, List, length, IfOk};
+ghost use Rattle.std.specs.Prelude.{◌≡◌, ◌≤◌, ℕ, List, length, Ok, IfOk, OnErr, is_err, true};
+ghost use Rattle.kin_io.specs.Outside.{HasCause};
 
 use crate::shelves::Shelf;
 use kin_ids::Failed;
@@ -25,6 +26,21 @@ impl<'a, R: Files> FileShelf<'a, R> {
     {
         FileShelf { rt, faults: 0 }
     }
+
+    // What a read answers: as many bytes as the system gave, and a fault, which is counted, where it gave an error.
+    fn answered(&mut self, given: io::Result<usize>) -> Result<usize, Failed>
+        ensures given { IfOk given (λ n. result ≡ Ok n) }
+        ensures error { OnErr given (is_err result ≡ true) }
+        ensures cause { HasCause (file_faults self.old) (file_faults self.new) result }
+    {
+        match given {
+            Ok(count) => Ok(count),
+            Err(_) => {
+                self.faults = self.faults.saturating_add(1);
+                Err(Failed)
+            }
+        }
+    }
 }
 
 // Opens a file and reads from a place on.
@@ -45,12 +61,7 @@ impl<'a, R: Files> Shelf for FileShelf<'a, R> {
     ghost faults = { λ s name. file_faults s };
 
     fn read_at(&mut self, name: &str, at: u64, buf: &mut [u8]) -> Result<usize, Failed> {
-        match read_file(self.rt, name, at, buf) {
-            Ok(count) => Ok(count),
-            Err(_) => {
-                self.faults = self.faults.saturating_add(1);
-                Err(Failed)
-            }
-        }
+        let given = read_file(self.rt, name, at, buf);
+        self.answered(given)
     }
 }

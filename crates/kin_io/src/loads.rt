@@ -46,6 +46,8 @@ pub fn load<F: Shelf>(
         → IfSome (F.content shelf.old name.now) (λ file. limit < length file) }
     ensures content { (n : List ℕ) → F.content shelf.new n ≡ F.content shelf.old n }
     ensures counts { (n : List ℕ) → F.faults shelf.old n ≤ F.faults shelf.new n }
+    ensures calm { (IsErrOf result LoadFault.Read → ⊥)
+        → (n : List ℕ) → F.faults shelf.new n ≡ F.faults shelf.old n }
 {
     let Ok(mut chunk) = buffer(alloc, CHUNK) else {
         return Err(LoadFault::Memory);

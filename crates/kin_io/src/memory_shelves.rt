@@ -129,7 +129,7 @@ impl Shelf for MemShelf {
         ensures most { most_bytes self.new ≡ most_bytes self.old }
         ensures fault { OnErr result
             (kept_faults self.new name.now ≡ one_more (kept_faults self.old name.now)) }
-        ensures no_fault { OnOk result (SameFaults self.old self.new) }
+        ensures calm { OnOk result ((n : List ℕ) → kept_faults self.new n ≡ kept_faults self.old n) }
         ensures others { SameFaultsBut name.now self.old self.new }
     {
         let fails = self.plan.count();

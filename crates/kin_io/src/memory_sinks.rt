@@ -100,7 +100,6 @@ impl Sink for MemSink {
         ensures fails { is_err result ≡ (fails_next (sink_plan self.old)
             || (nat_lt 0 (length bytes.now) && room_left self.old == 0)) }
         ensures fault { OnErr result (sink_faults self.new ≡ one_more (sink_faults self.old)) }
-        ensures no_fault { OnOk result (sink_faults self.new ≡ sink_faults self.old) }
         ensures made { made (sink_plan self.new) ≡ one_more (made (sink_plan self.old)) }
         ensures failing { SameFailing (sink_plan self.old) (sink_plan self.new) }
         ensures room { room_of self.new ≡ room_of self.old }
@@ -125,7 +124,6 @@ impl Sink for MemSink {
         ensures cause { HasCause (sink_faults self.old) (sink_faults self.new) result }
         ensures fails { is_err result ≡ fails_next (sink_plan self.old) }
         ensures fault { OnErr result (sink_faults self.new ≡ one_more (sink_faults self.old)) }
-        ensures no_fault { OnOk result (sink_faults self.new ≡ sink_faults self.old) }
         ensures made { made (sink_plan self.new) ≡ one_more (made (sink_plan self.old)) }
         ensures failing { SameFailing (sink_plan self.old) (sink_plan self.new) }
         ensures room { room_of self.new ≡ room_of self.old }

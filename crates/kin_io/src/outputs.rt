@@ -1,6 +1,7 @@
 //! Standard output: a trusted edge.
 
-ghost use Rattle.std.specs.Prelude.{◌≡◌, ◌≤◌, ℕ, List, length, IfOk};
+ghost use Rattle.std.specs.Prelude.{◌≡◌, ◌<◌, ◌≤◌, ◌⊎◌, ℕ, List, length, Ok, IfOk, OnOk, OnErr, is_ok, is_err, true};
+ghost use Rattle.kin_io.specs.Outside.{HasCause};
 ghost use Rattle.kin_io.specs.Plans.{one_more};
 
 use crate::sinks::Sink;
@@ -33,6 +34,31 @@ impl<'a, R: Print> StdSink<'a, R> {
         self.faults = self.faults.saturating_add(1);
         Failed
     }
+
+    // What a write of so many bytes answers: as many as the system took. An error is a fault, and so is it where the system took none of some.
+    fn wrote(&mut self, given: io::Result<usize>, len: usize) -> Result<usize, Failed>
+        ensures given { IfOk given (λ n. (0 < n ⊎ (len ≡ 0)) → result ≡ Ok n) }
+        ensures none { IfOk given (λ n. n ≡ 0 → 0 < len → is_err result ≡ true) }
+        ensures error { OnErr given (is_err result ≡ true) }
+        ensures cause { HasCause (output_faults self.old) (output_faults self.new) result }
+    {
+        match given {
+            Ok(count) if count > 0 || len == 0 => Ok(count),
+            _ => Err(self.fail()),
+        }
+    }
+
+    // What a flush answers: an error is a fault.
+    fn flushed(&mut self, given: io::Result<()>) -> Result<(), Failed>
+        ensures given { OnOk given (is_ok result ≡ true) }
+        ensures error { OnErr given (is_err result ≡ true) }
+        ensures cause { HasCause (output_faults self.old) (output_faults self.new) result }
+    {
+        match given {
+            Ok(()) => Ok(()),
+            Err(_) => Err(self.fail()),
+        }
+    }
 }
 
 // Writes some of the bytes.
@@ -58,16 +84,12 @@ impl<'a, R: Print> Sink for StdSink<'a, R> {
     ghost faults = { λ s. output_faults s };
 
     fn put(&mut self, bytes: &[u8]) -> Result<usize, Failed> {
-        match write_some(self.rt, bytes) {
-            Ok(count) if count > 0 || bytes.is_empty() => Ok(count),
-            _ => Err(self.fail()),
-        }
+        let given = write_some(self.rt, bytes);
+        self.wrote(given, bytes.len())
     }
 
     fn flush(&mut self) -> Result<(), Failed> {
-        match flush_out(self.rt) {
-            Ok(()) => Ok(()),
-            Err(_) => Err(self.fail()),
-        }
+        let given = flush_out(self.rt);
+        self.flushed(given)
     }
 }

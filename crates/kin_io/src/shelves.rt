@@ -1,6 +1,6 @@
 //! Named files.
 
-ghost use Rattle.std.specs.Prelude.{◌≡◌, ◌≤◌, IfOk, List, ℕ, Option};
+ghost use Rattle.std.specs.Prelude.{◌≡◌, ◌≤◌, IfOk, OnOk, List, ℕ, Option};
 ghost use Rattle.kin_io.specs.Outside.{HasCause, ReadsAt};
 
 use kin_ids::Failed;
@@ -19,5 +19,6 @@ pub trait Shelf {
         ensures content { (n : List ℕ) → content self.new n ≡ content self.old n }
         ensures reads { IfOk result (λ n. ReadsAt (content self.old name.now) at n buf.old buf.new) }
         ensures counts { (n : List ℕ) → faults self.old n ≤ faults self.new n }
-        ensures cause { HasCause (faults self.old name.now) (faults self.new name.now) result };
+        ensures cause { HasCause (faults self.old name.now) (faults self.new name.now) result }
+        ensures calm { OnOk result ((n : List ℕ) → faults self.new n ≡ faults self.old n) };
 }

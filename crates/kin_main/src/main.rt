@@ -1,7 +1,7 @@
 //! The program `kineo`: a graph engine over feeds of follow, unfollow and tweet records.
 #![tactic(auto)]
 
-use kin_ids::Status;
+use kin_ids::{Status, Which};
 use kin_io::{FileShelf, StdSink};
 use kin_replay::replay;
 use std::alloc::Global;
@@ -32,12 +32,25 @@ fn run<R: Files + Print + Alloc<A = Global>>(rt: &R, words: &[String]) -> Status
     }
 }
 
+// How standard error names a quantity that is past its limit.
+fn name_of(which: Which) -> &'static str {
+    match which {
+        Which::FeedBytes => "feed-bytes",
+        Which::Records => "records",
+        Which::ScriptBytes => "script-bytes",
+        Which::ScriptLines => "script-lines",
+    }
+}
+
 // What standard error shows of a status.
 fn complain<R: Eprint>(rt: &R, status: Status) -> io::Result<()> {
     match status {
         Status::Done => Ok(()),
+        Status::Usage => eprintln!(rt; "kineo: usage"),
+        Status::Script { line } => eprintln!(rt; "kineo: script line {line}"),
         Status::Read => eprintln!(rt; "kineo: cannot read"),
         Status::Write => eprintln!(rt; "kineo: cannot write"),
+        Status::Limit { which } => eprintln!(rt; "kineo: limit {}", name_of(which)),
         Status::Memory => eprintln!(rt; "kineo: no memory"),
         Status::NotBuilt => eprintln!(rt; "kineo: not built"),
     }

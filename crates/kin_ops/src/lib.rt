@@ -1,92 +1,94 @@
 //! Splits transactions into pieces, one for each partition.
 #![tactic(auto)]
 
+mod wanted;
+
 ghost use Rattle.std.specs.Prelude.{◌≡◌, ◌≤◌, ◌<◌, ◌+◌, ◌-◌, ◌++◌, ◌∷◌, ◌^◌, [], length, replicate, All, IfOk, OnOk, OnErr};
-ghost use Rattle.kin_ids.specs.Operations.{record_ops, items_ops, item_ops, numbered, all_ops, op_part};
+ghost use Rattle.kin_ids.specs.Operations.{record_ops, items_ops, item_ops, numbered, all_ops};
+ghost use Rattle.kin_ops.specs.Wanted.{HasParts, wanted_of};
 ghost use Rattle.kin_ops.specs.Pieces as pieces;
 ghost use Rattle.kin_ops.specs.Pieces.{IsStampOf, IsPieceOf, ArePiecesOf, FitsWhereOf, AreSpread, of_part};
 
-use kin_ids::{
-    Item, Memory, Numbered, Op, Ops, PartId, Piece, Record, Stamp, User, part_of_tag, part_of_user,
-};
+use crate::wanted::{Wanted, part_of};
+use kin_ids::{Item, Memory, Numbered, Op, Ops, PartId, Piece, Record, Stamp, User};
 use std::alloc::Global;
 
-fn add(ops: &mut Ops, number: u64, op: Op) -> Result<(), Memory>
-    ensures { OnOk result (ops.new ≡ ops.old ++ record { number = number; op = op } ∷ []) }
+// Appends an operation where it is wanted.
+fn add(ops: &mut Ops, wanted: Wanted, number: u64, op: Op) -> Result<(), Memory>
+    requires { HasParts wanted }
+    ensures { OnOk result (ops.new ≡ ops.old ++ wanted_of wanted (numbered number (op ∷ []))) }
 {
-    ops.push(Numbered { number, op })
+    if wanted.has(&op) {
+        ops.push(Numbered { number, op })
+    } else {
+        Ok(())
+    }
 }
 
-fn add_item(ops: &mut Ops, number: u64, u: User, item: &Item) -> Result<(), Memory>
-    ensures { OnOk result (ops.new ≡ ops.old ++ numbered number (item_ops u item.now)) }
+fn add_item(ops: &mut Ops, wanted: Wanted, number: u64, u: User, item: &Item) -> Result<(), Memory>
+    requires { HasParts wanted }
+    ensures { OnOk result (ops.new ≡ ops.old ++ wanted_of wanted (numbered number (item_ops u item.now))) }
 {
     match item {
         Item::At(w) => {
-            add(ops, number, Op::MentionOut(u, *w))?;
-            add(ops, number, Op::MentionIn(*w, u))?;
-            add(ops, number, Op::Said(*w))
+            add(ops, wanted, number, Op::MentionOut(u, *w))?;
+            add(ops, wanted, number, Op::MentionIn(*w, u))?;
+            add(ops, wanted, number, Op::Said(*w))
         }
         Item::Hash(tag) => {
-            add(ops, number, Op::Use(u, *tag))?;
-            add(ops, number, Op::TagUse(*tag, u))
+            add(ops, wanted, number, Op::Use(u, *tag))?;
+            add(ops, wanted, number, Op::TagUse(*tag, u))
         }
     }
 }
 
-fn add_items(ops: &mut Ops, number: u64, u: User, items: &[Item]) -> Result<(), Memory>
-    ensures { OnOk result (ops.new ≡ ops.old ++ numbered number (items_ops u items.now)) }
+fn add_items(
+    ops: &mut Ops,
+    wanted: Wanted,
+    number: u64,
+    u: User,
+    items: &[Item],
+) -> Result<(), Memory>
+    requires { HasParts wanted }
+    ensures { OnOk result (ops.new ≡ ops.old ++ wanted_of wanted (numbered number (items_ops u items.now))) }
 {
     for item in items {
-        add_item(ops, number, u, item)?;
+        add_item(ops, wanted, number, u, item)?;
     }
     Ok(())
 }
 
-fn add_record(ops: &mut Ops, number: u64, content: &Record) -> Result<(), Memory>
-    ensures { OnOk result (ops.new ≡ ops.old ++ numbered number (record_ops content.now)) }
+fn add_record(ops: &mut Ops, wanted: Wanted, number: u64, content: &Record) -> Result<(), Memory>
+    requires { HasParts wanted }
+    ensures { OnOk result (ops.new ≡ ops.old ++ wanted_of wanted (numbered number (record_ops content.now))) }
 {
     match content {
         Record::Follow { u, v } => {
-            add(ops, number, Op::AddOut(*u, *v))?;
-            add(ops, number, Op::AddIn(*v, *u))
+            add(ops, wanted, number, Op::AddOut(*u, *v))?;
+            add(ops, wanted, number, Op::AddIn(*v, *u))
         }
         Record::Unfollow { u, v } => {
-            add(ops, number, Op::DropOut(*u, *v))?;
-            add(ops, number, Op::DropIn(*v, *u))
+            add(ops, wanted, number, Op::DropOut(*u, *v))?;
+            add(ops, wanted, number, Op::DropIn(*v, *u))
         }
-        Record::Tweet { u, items } => add_items(ops, number, *u, items.as_slice()),
+        Record::Tweet { u, items } => add_items(ops, wanted, number, *u, items.as_slice()),
         Record::Bad => Ok(()),
     }
 }
 
-// The operations of records that follow position `from`, in record order.
-fn operations(alloc: Global, from: u64, records: &[Record]) -> Result<Ops, Memory>
-    requires { from + length records.now < 2 ^ 64 }
-    ensures { IfOk result (λ ops. ops ≡ all_ops from records.now) }
+// The wanted operations of records that follow position `from`, in record order.
+fn operations(alloc: Global, wanted: Wanted, from: u64, records: &[Record]) -> Result<Ops, Memory>
+    requires parts { HasParts wanted }
+    requires numbers { from + length records.now < 2 ^ 64 }
+    ensures { IfOk result (λ ops. ops ≡ wanted_of wanted (all_ops from records.now)) }
 {
     let mut ops = Ops::new(alloc);
     let mut number = from;
     for content in records {
         number += 1;
-        add_record(&mut ops, number, content)?;
+        add_record(&mut ops, wanted, number, content)?;
     }
     Ok(ops)
-}
-
-// The partition to which an operation belongs.
-fn part_of(op: &Op, parts: u16) -> PartId
-    requires { 0 < parts }
-    ensures { result.0 ≡ op_part parts op.now }
-{
-    match op {
-        Op::AddOut(u, _) | Op::AddIn(u, _) | Op::DropOut(u, _) | Op::DropIn(u, _) => part_of_user(
-            *u, parts,
-        ),
-        Op::MentionOut(u, _) | Op::MentionIn(u, _) | Op::Said(u) | Op::Use(u, _) => part_of_user(
-            *u, parts,
-        ),
-        Op::TagUse(tag, _) => part_of_tag(*tag, parts),
-    }
 }
 
 fn empty_lists(alloc: Global, parts: u16) -> Result<Vec<Ops>, Memory>
@@ -147,12 +149,12 @@ pub fn pieces(
     ensures each { IfOk result (λ all. ArePiecesOf parts stamp base records.now all.items) }
     ensures fit { IfOk result (λ all. All (FitsWhereOf parts stamp records.now) all.items) }
 {
-    let ops = operations(alloc, stamp.from, records)?;
+    let ops = operations(alloc, Wanted::All, stamp.from, records)?;
     let lists = spread(alloc, ops.as_slice(), parts)?;
     labelled(alloc, stamp, base, lists)
 }
 
-/// The piece of one partition. The cost is that of the transaction's operations.
+/// The piece of one partition, of whose operations alone it takes memory. The cost is that of the transaction's items.
 pub fn piece_of(
     alloc: Global,
     stamp: Stamp,
@@ -166,13 +168,7 @@ pub fn piece_of(
     ensures piece { IfOk result (λ x. IsPieceOf parts stamp base records.now part.0 x) }
     ensures fits { IfOk result (λ x. FitsWhereOf parts stamp records.now x) }
 {
-    let all = operations(alloc, stamp.from, records)?;
-    let mut ops = Ops::new(alloc);
-    for numbered in all.as_slice() {
-        if part_of(&numbered.op, parts) == part {
-            ops.push(*numbered)?;
-        }
-    }
+    let ops = operations(alloc, Wanted::Of { parts, part }, stamp.from, records)?;
     Ok(Piece {
         stamp,
         base,

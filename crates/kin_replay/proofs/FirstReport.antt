@@ -6,6 +6,7 @@ use Rattle.std.proofs.lemmas.Bool.{eq-eqb, ne_eqb}
 use Rattle.std.proofs.lemmas.List.{append-nil, length-take}
 use Rattle.std.proofs.lemmas.List.Recursion.{is_count_by}
 use Rattle.kin_ids.specs.declared.stamps.Stamp.{Stamp}
+use Rattle.kin_ids.specs.declared.stamps.End.{End}
 use Rattle.kin_ids.specs.declared.ops.Record.{Record}
 use Rattle.kin_ids.specs.Graph.{Graph, empty_graph}
 use Rattle.kin_ids.specs.Operations.{is_bad}
@@ -17,8 +18,10 @@ use Rattle.kin_history.specs.Vectors.{vector}
 use Rattle.kin_history.specs.Drain.{drain}
 use Rattle.kin_report.specs.RowWords.{stamp, deliver, raise, cut, commit, mine, lines_from}
 use Rattle.kin_report.specs.RowWords as words
-use Rattle.kin_report.specs.Block.{block, epoch_line, end_word, top_lines, rule_lines}
-use Rattle.kin_report.specs.Text.{line_of}
+use Rattle.kin_report.specs.Block.{epoch_line, end_word, number_lines, rule_lines}
+use Rattle.kin_ids.specs.Lines.{inc_at}
+use Rattle.kin_report.specs.Epochs.{block, ends_of, records_in, bad_in}
+use Rattle.kin_report.specs.Text.{Words, line_of, text_of}
 use Rattle.kin_rules.specs.Counts.{in_count}
 use Rattle.kin_report.specs.Report.{Ran, events_of, scheduled, drained, whole_run, printed, block_after}
 use Rattle.kin_report.proofs.Quiet.{is_quiet, AreQuiet, quiet-printed, printed-append, events_of-append}
@@ -106,7 +109,10 @@ module _ (feed : List Record) (n : ℕ) (lines : ℕ → List Stamp) (vectors : 
   new-bad : count_by (λ (x : Entry). is_bad x.content) new ≡ count_by is_bad (take n feed)
   new-bad = ap (count_by (λ (x : Entry). is_bad x.content)) new-is ∙ count-entries 1 0 0 (take n feed)
 
-  word-is : end_word (lines 0) (vectors 1 0) ≡ codes "0@" ++ decimal n
+  abbrev end_at : End
+  end_at = record { inc = record { 0 = inc_at (lines 0) (vectors 1 0) }; to = vectors 1 0 }
+
+  word-is : end_word end_at ≡ codes "0@" ++ decimal n
   unfolding digits
   word-is =
       let not_start : eqb n 0 ≡ false = ne_eqb n 0 (λ (e : n ≡ 0). absurd (omega arith)) in
@@ -116,11 +122,14 @@ module _ (feed : List Record) (n : ℕ) (lines : ℕ → List Stamp) (vectors : 
   abbrev with_words : List ℕ → ℕ → ℕ → List ℕ
   with_words w l b = line_of (codes "epoch" ∷ codes "1" ∷ w ∷ codes "records" ∷ decimal l ∷ codes "bad" ∷ decimal b ∷ [])
 
-  epoch-words : epoch_line lines (vectors 1) 1 1 new ≡ with_words (end_word (lines 0) (vectors 1 0)) (length new) (count_by (λ (x : Entry). is_bad x.content) new)
+  abbrev new_line : List ℕ
+  new_line = line_of (epoch_line 1 (ends_of lines (vectors 1) 1) (records_in (feed ∷ []) vectors 1) (bad_in (feed ∷ []) vectors 1))
+
+  epoch-words : new_line ≡ with_words (end_word end_at) (length new) (count_by (λ (x : Entry). is_bad x.content) new)
   unfolding digits
   epoch-words = refl
 
-  epoch-is : epoch_line lines (vectors 1) 1 1 new ≡ epoch_text n (count_by is_bad (take n feed))
+  epoch-is : new_line ≡ epoch_text n (count_by is_bad (take n feed))
   epoch-is =
       epoch-words
       ∙ (ap (λ (w : List ℕ). with_words w (length new) (count_by (λ (x : Entry). is_bad x.content) new)) word-is
@@ -130,14 +139,14 @@ module _ (feed : List Record) (n : ℕ) (lines : ℕ → List Stamp) (vectors : 
   pub snapshot-is : snapshot (feed ∷ []) vectors 1 ≡ first_graph feed n
   snapshot-is = ap (folded empty_graph) new-is
 
-  rules-are : (g : Graph) → rule_lines first_options g ≡ top_lines (codes "in") 10 g (in_count g)
+  rules-are : (g : Graph) → rule_lines first_options g ≡ number_lines (codes "in") 10 g (in_count g)
   rules-are g = simp append-nil
 
   pub block-of : block (feed ∷ []) lines vectors first_options 1 ≡ first_text feed n
   block-of =
-      ap (λ (t : List ℕ). t ++ rule_lines first_options (snapshot (feed ∷ []) vectors 1)) epoch-is
+      ap (λ (t : List ℕ). t ++ text_of (rule_lines first_options (snapshot (feed ∷ []) vectors 1))) epoch-is
       ∙ ap (λ (t : List ℕ). epoch_text n (count_by is_bad (take n feed)) ++ t)
-      (ap (rule_lines first_options) snapshot-is ∙ rules-are (first_graph feed n))
+      (ap (λ (g : Graph). text_of (rule_lines first_options g)) snapshot-is ∙ ap text_of (rules-are (first_graph feed n)))
 
 module _ (feed : List Record) (parts n : ℕ) (some_parts : 0 < parts) (some : 0 < n) (few : n ≤ length feed) where
   abbrev set : Setting

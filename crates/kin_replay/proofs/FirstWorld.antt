@@ -12,6 +12,7 @@ use Rattle.kin_rules.specs.Counts.{in_count}
 use Rattle.kin_rules.specs.Top.{top_users, numbered_users}
 use Rattle.kin_rules.proofs.Entries.{any-order, vertices-once}
 use Rattle.kin_report.specs.Block.{user_lines}
+use Rattle.kin_report.specs.Text.{text_of}
 use Rattle.kin_replay.specs.declared.worlds.World.{World}
 use Rattle.kin_replay.specs.FirstRun.{first_graph, first_text, epoch_text}
 use Rattle.kin_replay.specs.FirstEnds.{StandsFor}
@@ -32,10 +33,10 @@ world-stands feed parts n some_parts some few w at count are = record {
 
 -- the text over the counts of the graph of the first n records is what is printed
 pub text-is : (feed : List Record) (n bad : ℕ) (counts : List UserNumber) → bad ≡ count_by is_bad (between feed 0 n) → AreCounts (first_graph feed n) counts
-    → epoch_text n bad ++ user_lines (codes "in" ∷ []) (top_users counts 10) ≡ first_text feed n
+    → epoch_text n bad ++ text_of (user_lines (codes "in" ∷ []) (top_users counts 10)) ≡ first_text feed n
 text-is feed n bad counts bad_is are =
     let g : Graph = first_graph feed n in
     let all : n - 0 ≡ n = omega arith in
     let tops : top_users counts 10 ≡ top_users (numbered_users (in_count g) (vertices g)) 10 =
     ap (λ (l : List UserNumber). top_users l 10) are.counts_are ∙ any-order (in_count g) are.users (vertices g) 10 are.once (vertices-once g) are.all in
-    ap₂ (λ (b : ℕ) (l : List UserNumber). epoch_text n b ++ user_lines (codes "in" ∷ []) l) (bad_is ∙ ap (λ (m : ℕ). count_by is_bad (take m feed)) all) tops
+    ap₂ (λ (b : ℕ) (l : List UserNumber). epoch_text n b ++ text_of (user_lines (codes "in" ∷ []) l)) (bad_is ∙ ap (λ (m : ℕ). count_by is_bad (take m feed)) all) tops

@@ -11,8 +11,8 @@ use Rattle.kin_ids.specs.Graph.{Graph, empty_graph}
 use Rattle.kin_ids.specs.Operations.{is_bad}
 use Rattle.kin_ids.specs.Order.{entries, folded}
 use Rattle.kin_rules.specs.Counts.{in_count}
-use Rattle.kin_report.specs.Text.{line_of}
-use Rattle.kin_report.specs.Block.{top_lines}
+use Rattle.kin_report.specs.Text.{line_of, text_of}
+use Rattle.kin_report.specs.Block.{number_lines}
 use Rattle.kin_report.specs.Report.{events_of, report, whole_run}
 use Rattle.kin_report.specs.RowWords.{no_rules, stamp, deliver, raise, cut, lines_from}
 use Rattle.kin_report.specs.RowWords as words
@@ -50,7 +50,7 @@ abbrev pub epoch_text : ℕ → ℕ → List ℕ
 epoch_text n bad = line_of (codes "epoch" ∷ codes "1" ∷ (codes "0@" ++ decimal n) ∷ codes "records" ∷ decimal n ∷ codes "bad" ∷ decimal bad ∷ [])
 
 abbrev pub first_text : List Record → ℕ → List ℕ
-first_text feed n = epoch_text n (count_by is_bad (take n feed)) ++ top_lines (codes "in") 10 (first_graph feed n) (in_count (first_graph feed n))
+first_text feed n = epoch_text n (count_by is_bad (take n feed)) ++ text_of (number_lines (codes "in") 10 (first_graph feed n) (in_count (first_graph feed n)))
 
 -- what the definition of reports says of the schedule and its drain
 abbrev pub first_report : List Record → ℕ → ℕ → List ℕ

@@ -2,6 +2,7 @@
 
 ghost use Rattle.std.specs.Prelude.{◌≡◌, ◌++◌, ◌∷◌, [], codes, string_bytes, IfOk, OnOk};
 ghost use Rattle.kin_report.specs.Block.{user_lines};
+ghost use Rattle.kin_report.specs.Text.{text_of};
 ghost use Rattle.kin_rules.specs.Top as tops;
 ghost use Rattle.kin_replay.specs.FirstRun.{epoch_text};
 
@@ -19,7 +20,7 @@ fn epoch_line(alloc: Global, n: u64, bad: u64) -> Result<String, Memory>
 }
 
 fn push_line(alloc: Global, text: &mut String, entry: &UserNumber) -> Result<(), Memory>
-    ensures { OnOk result (string_bytes text.new ≡ string_bytes text.old ++ user_lines (codes "in" ∷ []) (entry.now ∷ [])) }
+    ensures { OnOk result (string_bytes text.new ≡ string_bytes text.old ++ text_of (user_lines (codes "in" ∷ []) (entry.now ∷ []))) }
 {
     let user = entry.user.0;
     let number = entry.number;
@@ -28,7 +29,7 @@ fn push_line(alloc: Global, text: &mut String, entry: &UserNumber) -> Result<(),
 }
 
 fn push_lines(alloc: Global, text: &mut String, top: &[UserNumber]) -> Result<(), Memory>
-    ensures { OnOk result (string_bytes text.new ≡ string_bytes text.old ++ user_lines (codes "in" ∷ []) top.now) }
+    ensures { OnOk result (string_bytes text.new ≡ string_bytes text.old ++ text_of (user_lines (codes "in" ∷ []) top.now)) }
 {
     for entry in top {
         push_line(alloc, text, entry)?;
@@ -43,7 +44,7 @@ pub(crate) fn block_of(
     bad: u64,
     counts: &[UserNumber],
 ) -> Result<String, Memory>
-    ensures { IfOk result (λ text. string_bytes text ≡ epoch_text n bad ++ user_lines (codes "in" ∷ []) (tops.top_users counts.now 10)) }
+    ensures { IfOk result (λ text. string_bytes text ≡ epoch_text n bad ++ text_of (user_lines (codes "in" ∷ []) (tops.top_users counts.now 10))) }
 {
     let top = top_users(alloc, counts, TOP)?;
     let mut text = epoch_line(alloc, n, bad)?;

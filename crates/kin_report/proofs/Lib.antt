@@ -1,1 +1,4 @@
 pub mod Quiet
+pub mod Settled
+pub mod Lines
+pub mod Results

@@ -1,12 +1,11 @@
 -- Events that print no block, and what the parts of a run print.
-use Rattle.std.proofs.Common.{◌≡◌, ℕ, ◌+◌, Bool, true, false, cond, not, eqb, List, [], ◌∷◌, ◌++◌, Option, Some, None, refl, sym, ◌∙◌, ap, subst, append_assoc, nat_lt}
+use Rattle.std.proofs.Common.{◌≡◌, ℕ, ◌+◌, Bool, true, false, not, eqb, List, [], ◌∷◌, ◌++◌, Option, Some, None, refl, sym, ◌∙◌, ap, append_assoc, nat_lt}
 use Rattle.std.proofs.lemmas.Bool.{cond_both}
 use Rattle.kin_ids.specs.declared.stamps.Stamp.{Stamp}
-use Rattle.kin_ids.specs.Lines.{has, find_stamp, next_stamp}
+use Rattle.kin_ids.specs.Lines.{has, find_stamp}
 use Rattle.kin_script.specs.declared.events.Event.{Event}
 use Rattle.kin_script.specs.declared.events.Event.TheVariants as event
 use Rattle.kin_script.specs.declared.outcomes.Outcome.{Outcome}
-use Rattle.kin_script.specs.declared.outcomes.Outcome.TheVariants as outcome
 use Rattle.kin_script.specs.declared.outcomes.Refusal.{Refusal}
 use Rattle.kin_history.specs.Setting.{Setting, after, feed_len}
 use Rattle.kin_history.specs.Lines.{up, inc, next, sent, delivered, agreed, least_ack, seen, top}

@@ -1,6 +1,9 @@
 pub mod Text
 pub mod Trace
+pub mod TraceLaws
 pub mod Block
+pub mod Written
+pub mod Epochs
 pub mod Report
 pub mod RowWords
 pub mod Rows

@@ -1,5 +1,5 @@
 -- The report of a history.
-use Rattle.std.specs.Prelude.{ℕ, Bool, true, false, List, [], ◌∷◌, ◌++◌, Option, Some, None, map}
+use Rattle.std.specs.Prelude.{ℕ, Bool, true, List, [], ◌∷◌, ◌++◌, Option, Some, None}
 use Rattle.kin_ids.specs.declared.options.OptionWords.{OptionWords}
 use Rattle.kin_script.specs.declared.events.Event.{Event}
 use Rattle.kin_script.specs.declared.events.Line.{Line}
@@ -11,7 +11,7 @@ use Rattle.kin_history.specs.Vectors.{vector}
 use Rattle.kin_history.specs.Outcomes.{outcome_of}
 use Rattle.kin_history.specs.Drain.{drain}
 use Rattle.kin_report.specs.Trace.{trace_text}
-use Rattle.kin_report.specs.Block.{block}
+use Rattle.kin_report.specs.Epochs.{block}
 
 -- An event of a run: one of the schedule has the number of its line, one of the drain has none.
 pub record Ran : Type 0 where

@@ -86,10 +86,13 @@ abbrev pub lines_from : ℕ → List Event → List Line
 lines_from n [] = []
 lines_from n (e ∷ es) = record { number = n; event = e } ∷ lines_from (n + 1) es
 
--- what a schedule prints with top lists of ten
+-- what a schedule prints with top lists of this length, and of ten
+abbrev pub prints_top : ℕ → Setting → RuleSet → Bool → List Event → List ℕ
+prints_top top set rules trace events =
+    reports.report set (record { rules = rules; landmarks = set.landmarks; top = top }) trace (reports.whole_run set (lines_from 1 events))
+
 abbrev pub prints : Setting → RuleSet → Bool → List Event → List ℕ
-prints set rules trace events =
-    reports.report set (record { rules = rules; landmarks = set.landmarks; top = 10 }) trace (reports.whole_run set (lines_from 1 events))
+prints set rules trace events = prints_top 10 set rules trace events
 
 -- lines, each ended with LF
 abbrev pub text : List (List ℕ) → List ℕ

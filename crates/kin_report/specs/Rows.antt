@@ -7,3 +7,6 @@ pub mod Rules
 pub mod Walks
 pub mod Whole
 pub mod Refusals
+pub mod Tops
+pub mod Nodes
+pub mod Waits

@@ -1,5 +1,5 @@
 -- The line that the trace writes of an outcome.
-use Rattle.std.specs.Prelude.{ℕ, List, [], ◌∷◌, ◌++◌, codes}
+use Rattle.std.specs.Prelude.{ℕ, List, [], ◌∷◌, codes}
 use Rattle.std.specs.Fmt.{decimal}
 use Rattle.kin_script.specs.declared.outcomes.Outcome.{Outcome}
 use Rattle.kin_script.specs.declared.outcomes.Refusal.{Refusal}

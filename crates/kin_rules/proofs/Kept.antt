@@ -1,5 +1,5 @@
 -- Values that users keep: what offers leave, and that values at rest are the least costs.
-use Rattle.std.proofs.Common.{◌≡◌, ◌≤◌, ◌+◌, ◌*◌, ◌||◌, ◌∙◌, ℕ, Bool, true, false, List, [], ◌∷◌, Option, Some, None, length, if◌then◌else◌, arith, refl, sym, subst, ap}
+use Rattle.std.proofs.Common.{◌≡◌, ◌≤◌, ◌+◌, ◌*◌, ◌||◌, ◌∙◌, ℕ, Bool, true, false, List, [], ◌∷◌, Option, Some, None, length, if◌then◌else◌, arith, refl, sym, subst}
 use Rattle.std.proofs.lemmas.Bool.{both_ways}
 use Rattle.std.proofs.Math.Nat.{mul-le-mul_left}
 use Rattle.kin_ids.specs.declared.ids.User.{User}
@@ -9,9 +9,9 @@ use Rattle.kin_rules.specs.declared.kinds.EdgeKind.{EdgeKind}
 use Rattle.kin_rules.specs.Walks.{Net, Step, AtMost, Under, passed, cost, IsEdge, IsWalk, IsWhole, IsRule}
 use Rattle.kin_rules.specs.Costs.{least_cost, IsLeastCost}
 use Rattle.kin_rules.specs.Kept.{starts, Within, Low, IsKept, AreKept, IsAtRest, HasStart, lowered, RestIsLeast}
-use Rattle.kin_rules.proofs.Walks.{at_most-more, under-trans, passed-under, cost-grows, cost-short}
+use Rattle.kin_rules.proofs.WalkCosts.{at_most-more, under-trans, passed-under, cost-grows, cost-short}
 use Rattle.kin_rules.proofs.Simple.{pigeons}
-use Rattle.kin_rules.proofs.Costs.{least-law}
+use Rattle.kin_rules.proofs.LeastCosts.{between, least-law}
 
 at-rest-passed : (net : Net) (f : User → Option ℕ) (w : User) → IsAtRest net f w → (k : EdgeKind) (u : User) → IsEdge net k w u → Under (f u) (passed (net.along k) (f w))
 at-rest-passed net f w rest k u e = here (f w) refl
@@ -115,12 +115,6 @@ kept-alike net f g same facts u n e =
 -- a walk to u at a cost of at most n
 abbrev pub Reached : Net → User → ℕ → Type 0
 Reached net u n = (ws : List Step) × (c : ℕ) × IsWalk net u ws × (cost net ws ≡ Some c) × (c ≤ n) × (has_user net.users net.mark ≡ true)
-
-between : (o p : Option ℕ) → ((n : ℕ) → o ≡ Some n → AtMost p n) → ((n : ℕ) → p ≡ Some n → AtMost o n) → o ≡ p
-between None None h k = refl
-between None (Some n) h k = absurd (k n refl)
-between (Some n) None h k = absurd (h n refl)
-between (Some n) (Some m) h k = let up : m ≤ n = h n refl in let down : n ≤ m = k m refl in let e : n ≡ m = omega (arith, up, down) in ap Some e
 
 -- values that walks reach, at rest, are the least costs
 pub reached-least : (net : Net) (f : User → Option ℕ) → IsRule net.along net.most → IsWhole net → HasStart net f → ((w : User) → IsAtRest net f w) → (u : User) → ((n : ℕ) → f u ≡ Some n → Reached net u n) → f u ≡ least_cost net u

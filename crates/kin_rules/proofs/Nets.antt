@@ -1,38 +1,20 @@
 -- Both ends of each edge that a rule sees are vertices.
 use mathlib.Core.List.{map-map}
-use Rattle.std.proofs.Common.{◌≡◌, ◌||◌, ◌&&◌, ◌∙◌, ◌⊎◌, inl, inr, Bool, true, false, List, [], ◌∷◌, ◌++◌, refl, sym, subst, ap, cond, if◌then◌else◌, map, filter}
+use Rattle.std.proofs.Common.{◌≡◌, ◌||◌, ◌&&◌, ◌∙◌, ◌⊎◌, inl, inr, Bool, true, false, List, [], ◌∷◌, refl, ap, cond, map, filter}
 use Rattle.std.specs.List.{list_any}
 use Rattle.std.proofs.lemmas.Bool.{or_cases, or_left, or_right}
-use Rattle.std.proofs.Math.Bool.{or-false, or-true}
+use Rattle.std.proofs.Math.Bool.{or-true}
 use Rattle.std.proofs.lemmas.List.Folds.{list_any-append}
 use Rattle.kin_ids.specs.declared.ids.User.{User}
 use Rattle.kin_ids.specs.declared.ops.Half.{Half}
 use Rattle.kin_ids.specs.Users.{same_user, has_user}
-use Rattle.kin_ids.specs.Graph.{Graph, Edge, Mention, half_out, distinct_onto, distinct, vertices}
-use Rattle.kin_ids.proofs.Same.{same_user-true}
+use Rattle.kin_ids.specs.Graph.{Graph, Edge, Mention, half_out, distinct, vertices}
+use Rattle.kin_ids.proofs.Vertices.{has-distinct_onto}
 use Rattle.kin_rules.specs.declared.kinds.EdgeKind.TheVariants as kind
 use Rattle.kin_rules.specs.Nets.{EdgesAreSeen, NetsAreWhole}
 
-or-last : (s a b : Bool) → ((s || (a || false)) || b) ≡ (s || (a || b))
-or-last true a b = refl
-or-last false true b = refl
-or-last false false b = refl
-
 -- users each once are the same users
-pub has-distinct_onto : (seen us : List User) (x : User) → has_user (distinct_onto seen us) x ≡ (has_user seen x || has_user us x)
-has-distinct_onto seen [] x = sym (or-false (has_user seen x))
-has-distinct_onto seen (u ∷ us) x = here (has_user seen u) refl (same_user x u) refl (has-distinct_onto seen us x) (has-distinct_onto (seen ++ u ∷ []) us x)
-  where
-    here : (b : Bool) → has_user seen u ≡ b → (a : Bool) → same_user x u ≡ a → has_user (distinct_onto seen us) x ≡ (has_user seen x || has_user us x)
-        → has_user (distinct_onto (seen ++ u ∷ []) us) x ≡ (has_user (seen ++ u ∷ []) x || has_user us x)
-        → has_user (if b then distinct_onto seen us else distinct_onto (seen ++ u ∷ []) us) x ≡ (has_user seen x || (a || has_user us x))
-    here true e false q is more = is
-    here true e true q is more =
-        let there : has_user seen x ≡ true = subst (λ (y : User). has_user seen y ≡ true) (sym (same_user-true x u q)) e in
-        is ∙ rw there refl
-    here false e a q is more = more ∙ rw (list_any-append (same_user x) seen (u ∷ []), q) (or-last (has_user seen x) a (has_user us x))
-
-pub has-distinct : (us : List User) (x : User) → has_user (distinct us) x ≡ has_user us x
+has-distinct : (us : List User) (x : User) → has_user (distinct us) x ≡ has_user us x
 has-distinct us x = has-distinct_onto [] us x
 
 -- both ends of a link among those out of w

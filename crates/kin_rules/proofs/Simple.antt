@@ -7,7 +7,7 @@ use Rattle.kin_ids.specs.Follows.{IsOnce}
 use Rattle.kin_ids.proofs.Same.{same_user-true}
 use Rattle.kin_rules.specs.Walks.{Net, Step, Under, passed, cost, IsWalk, IsWhole, IsRule}
 use Rattle.kin_rules.specs.Kept.{starts, Within}
-use Rattle.kin_rules.proofs.Walks.{cost-grows}
+use Rattle.kin_rules.proofs.WalkCosts.{cost-grows}
 
 -- a list without repeats, all within another, is no longer
 without : User → List User → List User

@@ -21,6 +21,10 @@ tag_count g t = length (tag_users g t)
 abbrev pub followers : Graph → User → List User
 followers g u = map (λ h. h.other) (filter (λ h. h.present) (ins g u))
 
+-- the users whom u follows now
+abbrev pub followees : Graph → User → List User
+followees g u = map (λ h. h.other) (filter (λ h. h.present) (outs g u))
+
 -- somebody follows u now where that edge is present
 abbrev pub FollowersArePresent : Type 0
 FollowersArePresent = (g : Graph) (u w : User) → has_user (followers g u) w ≡ is_present g w u

@@ -1,12 +1,14 @@
 -- What hops and closeness see of a graph, and their values.
 use Rattle.std.specs.Prelude.{◌≡◌, ℕ, List, Option, Some, None, map, length, if◌then◌else◌}
-use Rattle.std.specs.List.{list_any, list_all, sum_by}
+use Rattle.std.specs.List.{list_any, list_all, sum_by, filter_map}
+use Rattle.std.specs.Option.{option_map}
 use Rattle.kin_ids.specs.declared.ids.User.{User}
 use Rattle.kin_ids.specs.Users.{has_user}
 use Rattle.kin_ids.specs.Graph.{Graph, is_mention, outs, mentions_of, vertices}
 use Rattle.kin_ids.specs.Follows.{was_added}
 use Rattle.kin_rules.specs.declared.kinds.EdgeKind.{EdgeKind}
 use Rattle.kin_rules.specs.declared.kinds.EdgeKind.TheVariants as kind
+use Rattle.kin_rules.specs.declared.numbers.UserNumber.{UserNumber}
 use Rattle.kin_rules.specs.Walks.{Rule, Net, Step, IsWhole, cost}
 use Rattle.kin_rules.specs.Costs.{least_cost, IsLeastCost}
 use Rattle.kin_rules.specs.Instances.{hops_rule, close_rule, is_follow, edge_cost}
@@ -20,13 +22,29 @@ ends_of g kind.Mention u = mentions_of g u
 abbrev pub net_of : Rule → Graph → Net
 net_of r g = record { along = r.along; ends = ends_of g; users = vertices g; mark = r.mark; most = r.most }
 
--- the least number of follow edges of a walk from the landmark to u
-abbrev pub hops_of : Graph → User → User → Option ℕ
-hops_of g landmark u = least_cost (net_of (hops_rule landmark) g) u
+-- the same, where the vertices are listed in this way
+abbrev pub net_on : List User → Net → Net
+net_on us net = record net { users = us }
 
--- the least cost of a walk from the landmark to u, where a mention edge costs 1 and a follow edge 3
+-- hops: the least number of follow edges of a walk from the landmark to u
+abbrev pub IsHops : Graph → User → User → Option ℕ → Type 0
+IsHops g landmark u hops = IsLeastCost (net_of (hops_rule landmark) g) u hops
+
+-- closeness: the least cost of a walk from the landmark to u, where a mention edge costs 1 and a follow edge 3
+abbrev pub IsClose : Graph → User → User → Option ℕ → Type 0
+IsClose g landmark u cost = IsLeastCost (net_of (close_rule landmark) g) u cost
+
+-- the least cost of a walk under a rule, searched for
+abbrev pub least_of : Rule → Graph → User → Option ℕ
+least_of r g u = least_cost (net_of r g) u
+
+-- hops, searched for
+abbrev pub hops_of : Graph → User → User → Option ℕ
+hops_of g landmark u = least_of (hops_rule landmark) g u
+
+-- closeness, searched for
 abbrev pub close_of : Graph → User → User → Option ℕ
-close_of g landmark u = least_cost (net_of (close_rule landmark) g) u
+close_of g landmark u = least_of (close_rule landmark) g u
 
 -- an edge is seen for each follow edge ever added and for each mention edge
 abbrev pub EdgesAreSeen : Type 0
@@ -44,9 +62,13 @@ HopsCountEdges = (g : Graph) (landmark : User) (path : List Step) → cost (net_
 abbrev pub CloseAddsUp : Type 0
 CloseAddsUp = (g : Graph) (landmark : User) (path : List Step) → cost (net_of (close_rule landmark) g) path ≡ Some (sum_by (λ s. edge_cost s.kind) path)
 
--- hops and closeness are the least of all walks
+-- what is searched for are hops and closeness
 abbrev pub HopsAreLeast : Type 0
-HopsAreLeast = (g : Graph) (landmark u : User) → IsLeastCost (net_of (hops_rule landmark) g) u (hops_of g landmark u)
+HopsAreLeast = (g : Graph) (landmark u : User) → IsHops g landmark u (hops_of g landmark u)
 
 abbrev pub CloseIsLeast : Type 0
-CloseIsLeast = (g : Graph) (landmark u : User) → IsLeastCost (net_of (close_rule landmark) g) u (close_of g landmark u)
+CloseIsLeast = (g : Graph) (landmark u : User) → IsClose g landmark u (close_of g landmark u)
+
+-- the users with a value, each with it
+abbrev pub valued_users : (User → Option ℕ) → List User → List UserNumber
+valued_users f us = filter_map (λ u. option_map (λ n. record { user = u; number = n }) (f u)) us

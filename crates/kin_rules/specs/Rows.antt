@@ -1,5 +1,5 @@
 -- Worked rows: the rules evaluated on small graphs.
-use Rattle.std.specs.Prelude.{◌≡◌, ◌==◌, ℕ, List, [], ◌∷◌, Option, Some, None, if◌then◌else◌, map, codes, unwrap_or}
+use Rattle.std.specs.Prelude.{◌≡◌, ◌==◌, ℕ, List, [], ◌∷◌, Option, Some, None, if◌then◌else◌, map, codes}
 use Rattle.kin_ids.specs.declared.ids.User.{User}
 use Rattle.kin_ids.specs.declared.ops.Item.{Item}
 use Rattle.kin_ids.specs.declared.ops.Item.TheVariants as item
@@ -9,7 +9,7 @@ use Rattle.kin_ids.specs.Graph.{Graph, vertices, tags_in, said}
 use Rattle.kin_ids.specs.Order.{snapshot}
 use Rattle.kin_rules.specs.declared.numbers.UserNumber.{UserNumber}
 use Rattle.kin_rules.specs.Counts.{in_count, out_count, tag_count}
-use Rattle.kin_rules.specs.Nets.{hops_of, close_of}
+use Rattle.kin_rules.specs.Nets.{hops_of, close_of, valued_users}
 use Rattle.kin_rules.specs.Ranks.{rank_at, rank}
 use Rattle.kin_rules.specs.Exposure.{exposure}
 use Rattle.kin_rules.specs.Top.{top_users}
@@ -35,15 +35,15 @@ abbrev pub at : {A : Type 0} → (User → A) → List ℕ → List A
 at f us = map (λ n. f (user n)) us
 
 -- the exposures of a tag, from 0 users on
-abbrev pub exposures : Graph → List ℕ → List ℕ → List ℕ
-exposures g t ks = map (exposure g t) ks
+abbrev pub exposure_row : Graph → List ℕ → List ℕ → List ℕ
+exposure_row g t ks = map (exposure g t) ks
 
 abbrev pub entry : ℕ → ℕ → UserNumber
 entry u n = record { user = user u; number = n }
 
--- the top list of a rule that has no value for some
+-- the top list of the users with a value under a rule
 abbrev pub top_of : Graph → (User → Option ℕ) → ℕ → List UserNumber
-top_of g f t = top_users (map (λ u. record { user = u; number = unwrap_or (f u) 0 }) (vertices g)) t
+top_of g f t = top_users (valued_users f (vertices g)) t
 
 -- the greatest user and the least one; the longest tag
 abbrev pub limits : Graph
@@ -55,7 +55,7 @@ pub record LimitsRow : Type 0 where
   pub ranks : at (rank limits) (0 ∷ 4294967295 ∷ []) ≡ 1000000 ∷ 0 ∷ []
   pub tags : tags_in limits ≡ codes "abcdefghijklmnopqrstuvwx" ∷ []
   pub tag_users : tag_count limits (codes "abcdefghijklmnopqrstuvwx") ≡ 1
-  pub exposed : exposures limits (codes "abcdefghijklmnopqrstuvwx") (0 ∷ 1 ∷ []) ≡ 1 ∷ 0 ∷ []
+  pub exposed : exposure_row limits (codes "abcdefghijklmnopqrstuvwx") (0 ∷ 1 ∷ []) ≡ 1 ∷ 0 ∷ []
 
 -- a chain of five users, and then an edge that shortens it
 abbrev pub chain : ℕ → Graph
@@ -74,7 +74,7 @@ uses = graph_of ((follow 1 2 ∷ follow 1 3 ∷ tweet 2 (item.Hash (codes "go") 
 
 pub record UsesRow : Type 0 where
   pub tag_users : tag_count uses (codes "go") ≡ 3
-  pub exposed : exposures uses (codes "go") (0 ∷ 1 ∷ 2 ∷ []) ≡ 2 ∷ 1 ∷ 0 ∷ []
+  pub exposed : exposure_row uses (codes "go") (0 ∷ 1 ∷ 2 ∷ []) ≡ 2 ∷ 1 ∷ 0 ∷ []
 
 -- two users who follow each other
 abbrev pub ring : Graph
@@ -109,6 +109,6 @@ pub record LaunchRow : Type 0 where
   pub said : at (said launch) (7 ∷ 101 ∷ 102 ∷ 103 ∷ []) ≡ 2 ∷ 0 ∷ 0 ∷ 0 ∷ []
   pub tag_users : tag_count launch (codes "launch") ≡ 3
   pub ranks : at (rank launch) (7 ∷ 101 ∷ 102 ∷ 103 ∷ []) ≡ 1992187 ∷ 1992187 ∷ 0 ∷ 1992187 ∷ []
-  pub exposed : exposures launch (codes "launch") (0 ∷ 1 ∷ 2 ∷ []) ≡ 2 ∷ 1 ∷ 0 ∷ []
+  pub exposed : exposure_row launch (codes "launch") (0 ∷ 1 ∷ 2 ∷ []) ≡ 2 ∷ 1 ∷ 0 ∷ []
   pub hops : at (hops_of launch (user 7)) (7 ∷ 101 ∷ 102 ∷ 103 ∷ []) ≡ Some 0 ∷ Some 2 ∷ None ∷ Some 1 ∷ []
   pub close : at (close_of launch (user 7)) (7 ∷ 101 ∷ 102 ∷ 103 ∷ []) ≡ Some 0 ∷ Some 6 ∷ None ∷ Some 3 ∷ []

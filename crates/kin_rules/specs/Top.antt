@@ -3,10 +3,10 @@ use Rattle.std.specs.Prelude.{◌≡◌, ◌⊎◌, ℕ, nat_lt, List, [], ◌�
 use Rattle.std.specs.Ordering.{nat_cmp, ordering_then, is_lt}
 use Rattle.std.specs.declared.cmp.Ordering.{Ordering}
 use Rattle.std.specs.declared.cmp.Ordering.TheVariants.{Less}
-use Rattle.std.specs.List.{IsDistinct}
+use Rattle.std.specs.List.{IsDistinct, list_any}
 use Rattle.std.specs.List.Sorted.{IsPermutation}
 use Rattle.kin_ids.specs.declared.ids.User.{User}
-use Rattle.kin_ids.specs.Users.{user_cmp, tag_cmp, same_user, has_user}
+use Rattle.kin_ids.specs.Users.{user_cmp, tag_cmp, same_user, same_tag, has_user}
 use Rattle.kin_rules.specs.declared.numbers.UserNumber.{UserNumber}
 use Rattle.kin_rules.specs.declared.numbers.TagNumber.{TagNumber}
 
@@ -73,3 +73,13 @@ abbrev pub UsersInAnyOrder : Type 0
 UsersInAnyOrder =
     (f : User → ℕ) (us vs : List User) (t : ℕ) → IsDistinct same_user us → IsDistinct same_user vs → ((u : User) → has_user us u ≡ has_user vs u)
     → top_users (numbered_users f us) t ≡ top_users (numbered_users f vs) t
+
+-- a list of tags, each with its number
+abbrev pub numbered_tags : (List ℕ → ℕ) → List (List ℕ) → List TagNumber
+numbered_tags f ts = map (λ t. record { tag = t; number = f t }) ts
+
+-- the top list is the same in whatever order tags come, each once
+abbrev pub TagsInAnyOrder : Type 0
+TagsInAnyOrder =
+    (f : List ℕ → ℕ) (ss ts : List (List ℕ)) (t : ℕ) → IsDistinct same_tag ss → IsDistinct same_tag ts → ((x : List ℕ) → list_any (same_tag x) ss ≡ list_any (same_tag x) ts)
+    → top_tags (numbered_tags f ss) t ≡ top_tags (numbered_tags f ts) t

@@ -1,15 +1,45 @@
 //! What the rules of mining mean on a graph: counts, least walks, rank, exposure and lists cut to their greatest entries.
 #![tactic(auto)]
 
+mod columns;
+pub mod costs;
+mod edges;
+mod evaluations;
+mod exposure_lists;
+pub(crate) mod exposure_rules;
+pub mod indexes;
 pub mod kinds;
 pub mod laws;
+pub mod layers;
+mod neighbours;
 pub mod numbers;
+pub mod pull_rules;
+pub mod push_rules;
+pub(crate) mod rank_rules;
+pub mod results;
+mod rounds;
 pub mod rows;
+pub mod scratches;
+mod spots;
 pub mod tops;
+pub mod turns;
+pub mod walks;
 
+pub use costs::Costs;
+pub use exposure_rules::{UseK, UseKs};
+pub use indexes::Index;
 pub use kinds::EdgeKind;
-pub use numbers::{KCount, TagNumber, UserNumber};
+pub use layers::{Layers, layer_values};
+pub use numbers::{KCount, Num, TagNumber, UserNumber};
+pub use pull_rules::{Facts, Input, Lent, PullRule, Side};
+pub use push_rules::PushRule;
+pub use results::EpochResult;
+pub use scratches::scratch;
 pub use tops::{top_tags, top_users};
+pub use turns::Turn;
+pub use walks::walk_costs;
 
 #[cfg(test)]
 mod tests;
+#[cfg(test)]
+mod walk_tests;

@@ -90,3 +90,15 @@ pub struct KCount {
     pub k: u64,
     pub users: u64,
 }
+
+/// The rules that give each user a number.
+#[derive(Clone, Copy, Debug, PartialEq, Eq)]
+pub enum Num {
+    /// How many follow it.
+    In,
+    /// How many it follows.
+    Out,
+    /// How many items of tweets mention it.
+    Said,
+    Rank,
+}

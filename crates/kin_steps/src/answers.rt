@@ -2,11 +2,12 @@
 
 ghost use Rattle.std.specs.Prelude.{◌<◌, ◌≤◌, IsTrue};
 ghost use Rattle.kin_history.specs.Setting.{IsEvent};
-ghost use Rattle.kin_world.specs.Worlds.{HasRoom, IsBuilt, setting_of};
+ghost use Rattle.kin_world.specs.Worlds.{HasRoom, setting_of};
 
 use crate::faults::Fault;
 use crate::lines::{Asked, read_line};
 use crate::opens::open;
+use crate::results::print_result;
 use crate::stores::print_store;
 use crate::texts::{Told, Vector};
 use kin_hub::Hub;
@@ -36,21 +37,12 @@ fn fits(world: &World, event: Event) -> bool
     }
 }
 
-// Whether the world takes such events.
-fn is_built(event: Event) -> bool
-    ensures { IsTrue result → IsBuilt event }
-{
-    !matches!(event, Event::Begin | Event::Turn { .. } | Event::Mine)
-}
-
 fn step<R: Print>(rt: &R, world: &mut World, event: Event) -> Result<(), Fault> {
-    if !fits(world, event) {
-        println!(rt; "bad line")?;
-    } else if is_built(event) {
+    if fits(world, event) {
         let told = Told(world.step(event)?);
         println!(rt; "{told}")?;
     } else {
-        println!(rt; "not-built")?;
+        println!(rt; "bad line")?;
     }
     Ok(())
 }
@@ -86,23 +78,32 @@ pub(crate) fn answer<R: Print + Alloc<A = Global>>(
 ) -> Result<(), Fault> {
     let words: Vec<&str> = line.split(' ').collect(rt.alloc())?;
     match (read_line(words.as_slice()), world.as_mut()) {
-        (Some(Asked::World { parts, feeds }), _) => begin(rt, world, parts, feeds, line),
+        (
+            Some(
+                Asked::World {
+                    parts,
+                    feeds,
+                    landmarks,
+                },
+            ),
+            _,
+        ) => begin(rt, world, open(rt.alloc(), parts, feeds, landmarks)?, line),
         (Some(Asked::Event(event)), Some(world)) => step(rt, world, event),
         (Some(Asked::Vectors), Some(world)) => print_vectors(rt, world.hub()),
+        (Some(Asked::Result), Some(world)) => print_result(rt, world.miner()),
         (Some(Asked::Store(k)), Some(world)) => print_snapshot(rt, world.hub(), k),
         _ => Ok(println!(rt; "bad line")?),
     }
 }
 
-// Opens the world of a case, and prints its line again.
-fn begin<R: Print + Alloc<A = Global>>(
+// Begins a case with its world, and prints its line again.
+fn begin<R: Print>(
     rt: &R,
     world: &mut Option<World>,
-    parts: u64,
-    feeds: &str,
+    opened: Option<World>,
     line: &str,
 ) -> Result<(), Fault> {
-    match open(rt.alloc(), parts, feeds)? {
+    match opened {
         Some(opened) => {
             *world = Some(opened);
             println!(rt; "{line}")?;

@@ -7,14 +7,20 @@ use kin_script::Event;
 /// What a line asks for.
 #[derive(Clone, Copy, Debug, PartialEq, Eq)]
 pub(crate) enum Asked<'a> {
-    /// A new world of so many partitions, over these feeds.
-    World { parts: u64, feeds: &'a str },
+    /// A new world of so many partitions, over these feeds, with these landmarks where there are any.
+    World {
+        parts: u64,
+        feeds: &'a str,
+        landmarks: Option<&'a str>,
+    },
     /// An event. Its ids may be none of the world's.
     Event(Event),
     /// Where each cut epoch ends.
     Vectors,
     /// The snapshot of an epoch.
     Store(Epoch),
+    /// The values of the epoch begun last.
+    Result,
 }
 
 // The last position of a feed.
@@ -87,8 +93,15 @@ pub(crate) fn read_line<'a>(words: &[&'a str]) -> Option<Asked<'a>> {
         ["world", parts, feeds] => Some(Asked::World {
             parts: number(parts)?,
             feeds,
+            landmarks: None,
+        }),
+        ["world", parts, feeds, landmarks] => Some(Asked::World {
+            parts: number(parts)?,
+            feeds,
+            landmarks: Some(landmarks),
         }),
         ["vectors"] => Some(Asked::Vectors),
+        ["result"] => Some(Asked::Result),
         ["store", k] => Some(Asked::Store(epoch(k)?)),
         _ => Some(Asked::Event(event_of(words)?)),
     }

@@ -6,6 +6,7 @@ mod answers;
 mod faults;
 mod lines;
 mod opens;
+mod results;
 mod stores;
 mod texts;
 

@@ -15,7 +15,7 @@ use std::sync::ledger::{Blank, Ledger};
 struct At(Place);
 
 #[derive(Clone, Copy, Debug)]
-struct TagText(Tag);
+pub(crate) struct TagText(pub(crate) Tag);
 
 // Lists, whose items each stand after a space.
 #[derive(Clone, Copy, Debug)]

@@ -1,12 +1,8 @@
 -- Ends of a cut.
-use Rattle.std.specs.Prelude.{ℕ, ◌==◌, if◌then◌else◌, List, [], ◌∷◌}
+use Rattle.std.specs.Prelude.{ℕ, ◌==◌, if◌then◌else◌, List}
 use Rattle.kin_ids.specs.declared.stamps.Stamp.{Stamp}
 use Rattle.kin_ids.specs.declared.stamps.End.{End}
-
--- the incarnation of the stamp that ends at a position, 0 where none does
-abbrev pub inc_at : List Stamp → ℕ → ℕ
-inc_at [] to = 0
-inc_at (s ∷ ss) to = if s.to == to then s.inc.0 else inc_at ss to
+pub use Rattle.kin_ids.specs.Lines.{inc_at}
 
 -- A node's end at a position, over its stamps past its last end: the last end where nothing was taken since, else with the
 -- incarnation of the stamp that ends there.

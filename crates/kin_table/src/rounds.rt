@@ -6,7 +6,8 @@
 
 ghost use Rattle.std.specs.Prelude.{◌≡◌, ◌<◌, ◌++◌, ℕ, nat_lt, List, All, IfOk, Some, length, slice_index};
 ghost use Rattle.std.specs.List.{filter, slice_get, range_with_len};
-ghost use Rattle.kin_ids.specs.Fair.{Turn, row, longest, size, enough, last_end, fair};
+ghost use Rattle.kin_ids.specs.Fair.{Waiting, size, enough, last_end, fair};
+ghost use Rattle.kin_ids.specs.Rounds.{row, longest};
 ghost use Rattle.kin_table.specs.Lists.{list_at, IsVector};
 
 use kin_ids::{Memory, Stamp, StampList};
@@ -78,7 +79,7 @@ fn round(ends: &mut Vec<u64>, lists: &[StampList], live: &[usize], place: usize,
     requires more { All (λ node. place < length (list_at lists.now node)) live.now }
     ensures len { length ends.new.items ≡ length ends.old.items }
     // Whatever follows in turn: what is done is in the ends, and what is left to take in the result.
-    ensures ends { (rest : List Turn) (i : ℕ) →
+    ensures ends { (rest : List Waiting) (i : ℕ) →
         last_end (slice_index ends.new.items i) i (enough result rest) ≡
         last_end (slice_index ends.old.items i) i
         (enough wanted (row (list_at lists.now) place live.now ++ rest)) }

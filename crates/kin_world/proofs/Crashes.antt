@@ -21,33 +21,33 @@ use Rattle.kin_world.proofs.Refusals.{refused-keeps}
 
 module _ (set : Setting) (w : WorldView) (h : List Event) (s : Stands set w h) (j : IngestId) (lt : j.0 < nodes set) where
   pub up_is : (node_at w j.0).up ≡ up set h j.0
-  up_is = ap (λ (node : Ingest). node.up) (s.ingests j.0 lt)
+  up_is = ap (λ (node : Ingest). node.up) (s.nodes.ingests j.0 lt)
 
   at_node : (i : ℕ) → i < nodes set → (b : Bool) → eqb j.0 i ≡ b → cond b (record (node_at w j.0) { up = false }) (node_at w i)
       ≡ record { id = record { 0 = i }; len = feed_len set i; inc = record { 0 = inc set h i }; base = base set h i (inc set h i); next = next set h i; up = cond b false (up set h i) }
-  at_node i i_lt true e = subst (λ (k : ℕ). let was : Ingest = node_at w j.0 in record was { up = false } ≡ record (node_of set h k) { up = false }) (eqb-true j.0 i e) (ap (λ (node : Ingest). record node { up = false }) (s.ingests j.0 lt))
-  at_node i i_lt false e = s.ingests i i_lt
+  at_node i i_lt true e = subst (λ (k : ℕ). let was : Ingest = node_at w j.0 in record was { up = false } ≡ record (node_of set h k) { up = false }) (eqb-true j.0 i e) (ap (λ (node : Ingest). record node { up = false }) (s.nodes.ingests j.0 lt))
+  at_node i i_lt false e = s.nodes.ingests i i_lt
 
   pub crash-stands : Stands set (after_crash w j.0) (event.Crash j ∷ h)
   crash-stands =
-      let count = s.world.nodes in
-      let in_feeds : j.0 < length w.feeds = subst (λ feeds. j.0 < length feeds) (sym s.feeds) lt in
+      let count = s.over.world.nodes in
+      let in_feeds : j.0 < length w.feeds = subst (λ feeds. j.0 < length feeds) (sym s.over.feeds) lt in
       record {
-        world = record { nodes = length-set w.ingests j.0 _ ∙ s.world.nodes; hub_nodes = s.world.hub_nodes; hub_parts = s.world.hub_parts };
-        feeds = s.feeds;
-        parts = s.parts;
-        limits = s.limits;
-        history = (lt, s.history);
-        ingests = λ i i_lt. get_or-set w.ingests j.0 i _ _ (rw s.world.nodes in_feeds) ∙ at_node i i_lt (eqb j.0 i) refl;
-        stamps = s.stamps;
-        chains = s.chains;
-        rows = s.rows;
-        row_incs = s.row_incs;
-        row_tops = s.row_tops;
-        vectors = s.vectors;
-        committed_are = s.committed_are;
-        kept = s.kept;
-        hub = s.hub;
+        over = record {
+          world = record { nodes = length-set w.ingests j.0 _ ∙ s.over.world.nodes; hub_nodes = s.over.world.hub_nodes; hub_parts = s.over.world.hub_parts };
+          feeds = s.over.feeds;
+          parts = s.over.parts;
+          landmarks = s.over.landmarks;
+          limits = s.over.limits;
+          history = (lt, s.over.history);
+        };
+        nodes = record {
+          ingests = λ i i_lt. get_or-set w.ingests j.0 i _ _ (rw s.over.world.nodes in_feeds) ∙ at_node i i_lt (eqb j.0 i) refl;
+          stamps = s.nodes.stamps;
+        };
+        partitions = record { chains = s.partitions.chains; rows = s.partitions.rows; row_incs = s.partitions.row_incs; row_tops = s.partitions.row_tops };
+        epochs = record { vectors = s.epochs.vectors; committed_are = s.epochs.committed_are; kept = s.epochs.kept; hub = s.epochs.hub };
+        mining = record { mined_is = s.mining.mined_is; open_is = s.mining.open_is; miner = s.mining.miner; quiet = s.mining.quiet };
       }
 
 pub crash-keeps : (old : WorldView) (j : IngestId) (o : Outcome) (new : WorldView) → j.0 < length old.feeds → Crashes old j.0 o new → Keeps old (event.Crash j) o new

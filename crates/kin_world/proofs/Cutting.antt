@@ -25,17 +25,23 @@ use Rattle.kin_table.specs.declared.answers.CutRefused.TheVariants as refused
 use Rattle.kin_table.specs.declared.cuts.Cut.{Cut}
 use Rattle.kin_hub.specs.Cores.{since_cut, with_cut}
 use Rattle.kin_hub.specs.Cuts.{next_at, with_next}
-use Rattle.kin_hub.specs.Goes.{HubCuts}
+use Rattle.kin_hub.specs.Goes.{HubCuts, cut_story}
+use Rattle.kin_ids.specs.Graph.{Graph}
+use Rattle.kin_ids.specs.Order.{snapshot}
+use Rattle.kin_ids.proofs.Alike.{snapshot-alike}
+use Rattle.kin_history.specs.Mining.{mined, is_open}
+use Rattle.kin_history.proofs.Mined.{mined-order}
+use Rattle.kin_mine.specs.Miners.{IsMinerOf}
 use Rattle.kin_hub.specs.Hubs.{HubView, agreed_in, missing_in, cuts_in, chain_in}
 use Rattle.kin_hub.proofs.Alike.{hub-alike}
 use Rattle.kin_world.specs.Worlds.{WorldView, setting_of, HasRoom, KeptWhereRefused}
 use Rattle.kin_world.specs.Steps.{Cuts}
-use Rattle.kin_world.specs.Stands.{Stands, HasStory, Keeps, agreed_line}
+use Rattle.kin_world.specs.Stands.{Stands, HasHistory, Keeps, KeptAtMemory, KeepsOrBegins, agreed_line, story_of, last_begun}
 use Rattle.kin_world.proofs.Facts.{some_parts, in_range, agreed_is}
 use Rattle.kin_world.proofs.Refusals.{refused-keeps}
 
 -- the least number is the same where the tests are
-first-alike : (from n : ℕ) (f g : ℕ → Bool) → ((p : ℕ) → p < from + n → f p ≡ g p) → first_without from n f ≡ first_without from n g
+pub first-alike : (from n : ℕ) (f g : ℕ → Bool) → ((p : ℕ) → p < from + n → f p ≡ g p) → first_without from n f ≡ first_without from n g
 first-alike from zero f g same = refl
 first-alike from (suc n) f g same = rw (same from (omega arith), first-alike (from + 1) n f g (λ p lt. same p (omega arith))) refl
 
@@ -58,15 +64,15 @@ cuts-next set h _ = omega arith
 
 module _ (set : Setting) (w : WorldView) (h : List Event) (s : Stands set w h) where
   pub cuts_is : cuts_in w.hub ≡ cuts set h
-  cuts_is = let count = s.vectors in omega arith
+  cuts_is = let count = s.epochs.vectors in omega arith
 
   -- the table's missing partition is the history's
   pub missing_is : missing_in w.hub ≡ unreported_part set h
   missing_is =
-      let rows = s.hub.core.core.parts in
-      let parts = s.hub.core.parts_are in
+      let rows = s.epochs.hub.core.core.parts in
+      let parts = s.epochs.hub.core.parts_are in
       let count : length w.hub.core.table.rows ≡ set.parts = omega arith in
-      rw count (first-alike 0 set.parts _ _ (λ p lt. s.rows p (omega arith)))
+      rw count (first-alike 0 set.parts _ _ (λ p lt. s.partitions.rows p (omega arith)))
 
   module _ (n : Option ℕ) (legal : IsEvent set (event.Cut n)) where
     -- the vectors up to the last one stay, and so does each chain's floor
@@ -74,9 +80,9 @@ module _ (set : Setting) (w : WorldView) (h : List Event) (s : Stands set w h) w
         IsChainOf i (seen set h p i) (base set h i (seen set h p i)) (vector set (event.Cut n ∷ h) (committed set h p) i) (delivered set h p)
         (upto (base set h i (seen set h p i)) (line set h i)) (made_by i (seen set h p i) (sent set h)) (chain_in w.hub p i)
     chain-stands p i p_lt i_lt =
-        let kept = (keeps set h (event.Cut n) i (some_parts set w h s) (legal, s.history) i_lt).kept (committed set h p) (committed-low set h p) in
+        let kept = (keeps set h (event.Cut n) i (some_parts set w h s) (legal, s.over.history) i_lt).kept (committed set h p) (committed-low set h p) in
         subst (λ (at : ℕ). IsChainOf i (seen set h p i) (base set h i (seen set h p i)) at (delivered set h p)
-        (upto (base set h i (seen set h p i)) (line set h i)) (made_by i (seen set h p i) (sent set h)) (chain_in w.hub p i)) (sym kept) (s.chains p i p_lt i_lt)
+        (upto (base set h i (seen set h p i)) (line set h i)) (made_by i (seen set h p i) (sent set h)) (chain_in w.hub p i)) (sym kept) (s.partitions.chains p i p_lt i_lt)
 
     module _ (made : CutMakes set h n) where
       abbrev Next : ℕ → ℕ
@@ -95,24 +101,39 @@ module _ (set : Setting) (w : WorldView) (h : List Event) (s : Stands set w h) w
           (λ (ne : k ≢ cuts set h + 1). cond-false (eqb k (cuts_in w.hub + 1)) _ _ (ne_eqb _ _ (λ e. ne (omega arith))) ∙ sym (made.old_is k i ne))
           (cases_eq k (cuts set h + 1))
 
+      -- the graph of the epoch begun last stays
+      begun-stays : IsMinerOf (snapshot set.feeds (vector set (event.Cut n ∷ h)) (last_begun set h)) (last_begun set h) w.miner
+      begun-stays =
+          let order = mined-order set h in
+          let low : last_begun set h ≤ cuts set h = cond_both (is_open set h) (mined set h + 1) (mined set h) (λ (k : ℕ). k ≤ cuts set h) order.begun_cut (λ _. order.cut) in
+          subst (λ (g : Graph). IsMinerOf g (last_begun set h) w.miner)
+          (snapshot-alike set.feeds (vector set h) (vector set (event.Cut n ∷ h)) (last_begun set h) (λ j i le lt. sym (made.old_is j i (λ e. absurd (omega arith))))) s.mining.miner
+
       cut-stands : (ends : List End) → HubCuts w.hub n (record w.hub { core = with_cut w.hub.core ends }) → Stands set (record w { hub = record w.hub { core = with_cut w.hub.core ends } }) (event.Cut n ∷ h)
       cut-stands ends stands = record {
-        world = record { nodes = s.world.nodes; hub_nodes = s.world.hub_nodes; hub_parts = s.world.hub_parts };
-        feeds = s.feeds;
-        parts = s.parts;
-        limits = s.limits;
-        history = (legal, s.history);
-        ingests = s.ingests;
-        stamps = s.stamps;
-        chains = chain-stands;
-        rows = s.rows;
-        row_incs = s.row_incs;
-        row_tops = s.row_tops;
-        vectors = let one = length_push w.hub.core.table.vectors ends in let count = s.vectors in let more = made.cuts_is in omega arith;
-        committed_are = s.committed_are;
-        kept = s.kept;
-        hub = hub-alike set.feeds _ (vector set (event.Cut n ∷ h)) set.parts (agreed_line set h) (bases set h) (record w.hub { core = with_cut w.hub.core ends }) (λ k i _ lt. vector-is k i lt)
-            (stands set.parts set.feeds (agreed_line set h) (bases set h) (vector set h) s.hub);
+        over = record {
+          world = record { nodes = s.over.world.nodes; hub_nodes = s.over.world.hub_nodes; hub_parts = s.over.world.hub_parts };
+          feeds = s.over.feeds;
+          parts = s.over.parts;
+          landmarks = s.over.landmarks;
+          limits = s.over.limits;
+          history = (legal, s.over.history);
+        };
+        nodes = record { ingests = s.nodes.ingests; stamps = s.nodes.stamps };
+        partitions = record {
+          chains = chain-stands;
+          rows = s.partitions.rows;
+          row_incs = s.partitions.row_incs;
+          row_tops = s.partitions.row_tops;
+        };
+        epochs = record {
+          vectors = let one = length_push w.hub.core.table.vectors ends in let count = s.epochs.vectors in let more = made.cuts_is in omega arith;
+          committed_are = s.epochs.committed_are;
+          kept = s.epochs.kept;
+          hub = hub-alike (cut_story (story_of set h) (cuts_in w.hub + 1) Next) (vector set (event.Cut n ∷ h)) (record w.hub { core = with_cut w.hub.core ends }) (λ k i _ lt. vector-is k i lt)
+              (stands (story_of set h) s.epochs.hub);
+        };
+        mining = record { mined_is = s.mining.mined_is; open_is = s.mining.open_is; miner = begun-stays; quiet = s.mining.quiet };
       }
 
   -- where every partition has reported, the history makes the cut too
@@ -145,15 +166,23 @@ cut-kept old n (outcome.Refused (refusal.NotReported p)) new refused = refused.1
 cut-kept old n (outcome.CutMade k) new cut = tt
 cut-kept old n _ new cut = absurd cut
 
+-- how many epochs are cut after want of memory
+cuts-kept : (old : WorldView) (e : Event) (new : WorldView) → HasHistory old → KeptAtMemory old e new → cuts_in new.hub ≤ cuts_in old.hub + 1
+cuts-kept old event.Mine new (set, h, s) kept =
+    let was_is = cuts_is set old h s in
+    ⊎_elim (λ (t : Stands set new h). let now_is = cuts_is set new h t in omega arith)
+    (λ (t : Stands set new (event.Begin ∷ h)). let now_is = cuts_is set new (event.Begin ∷ h) t in omega arith) (kept set h s)
+cuts-kept old _ new has kept = rw kept (omega arith)
+
 -- how many epochs are cut after an event, by what it answered
-pub cuts-after : (old : WorldView) (e : Event) (r : Result Outcome Memory) (new : WorldView) → HasStory old → IfOk r (λ o. Keeps old e o new) → OnErr r (new ≡ old) → cuts_in new.hub ≤ cuts_in old.hub + 1
+pub cuts-after : (old : WorldView) (e : Event) (r : Result Outcome Memory) (new : WorldView) → HasHistory old → IfOk r (λ o. Keeps old e o new) → OnErr r (KeptAtMemory old e new) → cuts_in new.hub ≤ cuts_in old.hub + 1
 cuts-after old e (Ok o) new story keeps err =
     let now = (keeps story.0 story.1 story.2).1 in
     let was_is = cuts_is story.0 old story.1 story.2 in
     let now_is = cuts_is story.0 new (e ∷ story.1) now in
     let next = cuts-next story.0 story.1 e in
     omega arith
-cuts-after old e (Err x) new story keeps err = rw err (omega arith)
+cuts-after old e (Err x) new story keeps err = cuts-kept old e new story err
 
 -- an event has room where a cut has
 pub has-room : (w : WorldView) (e : Event) → HasRoom w (event.Cut None) → HasRoom w e

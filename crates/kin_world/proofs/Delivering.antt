@@ -30,8 +30,8 @@ use Rattle.kin_hub.specs.Goes.{IsKnown, Knows, HubPlaces}
 use Rattle.kin_world.specs.declared.sent_logs.Sent.{Sent}
 use Rattle.kin_world.specs.SentStamps.{find_sent}
 use Rattle.kin_world.specs.Worlds.{WorldView}
-use Rattle.kin_world.specs.Steps.{IsPieceFor, told, IsTold, TakesPiece, Delivers}
-use Rattle.kin_world.specs.Stands.{Stands, HasStory, Keeps, agreed_line}
+use Rattle.kin_world.specs.Steps.{IsPieceFor, told, IsNotAdrift, TakesPiece, Delivers}
+use Rattle.kin_world.specs.Stands.{Stands, HasHistory, Keeps, agreed_line, story_of}
 use Rattle.kin_world.proofs.Facts.{good, node_in, part_in, inc_is}
 use Rattle.kin_world.proofs.Refusals.{refused-keeps}
 use Rattle.kin_world.proofs.Made.{IsMade, made-of, stamp_of, none_of}
@@ -59,10 +59,10 @@ piece-of set w h s p i c to y x p_lt i_lt e of =
       made = subst (λ (z : Stamp). has (sent set h) z ≡ true) (sym of.stamp) made.made;
       one = subst (λ (z : Stamp). find_stamp (sent set h) z.ingest.0 z.inc.0 z.to ≡ Some z) (sym of.stamp) at_y;
       based = of.base_is ∙ (base_y ∙ ap (λ (z : Stamp). base set h z.ingest.0 z.inc.0) (sym of.stamp));
-      fits = subst (λ (n : ℕ). Fits n set.feeds x) s.parts (subst (λ (feeds : List (List Record)). Fits w.parts feeds x) s.feeds of.fits);
+      fits = subst (λ (n : ℕ). Fits n set.feeds x) s.over.parts (subst (λ (feeds : List (List Record)). Fits w.parts feeds x) s.over.feeds of.fits);
     }
 
-known-is : (set : Setting) (w : WorldView) (h : List Event) → Stands set w h → (x : Piece) → IsStampedPiece set h x → IsKnown set.parts set.feeds (bases set h) w.hub x
+known-is : (set : Setting) (w : WorldView) (h : List Event) → Stands set w h → (x : Piece) → IsStampedPiece set h x → IsKnown (story_of set h) w.hub x
 known-is set w h s x of = record {
   fits = of.fits;
   inc = (let last = inc_is set w h s x.stamp.ingest.0 of.node in let exists = (good set w h s x.stamp.ingest.0).later x.stamp of.made refl in omega arith);
@@ -70,15 +70,15 @@ known-is set w h s x of = record {
 }
 
 -- the hub knows the piece of a stamp that is found, and it isn't adrift
-pub knows-piece : (w : WorldView) → HasStory w → (p i c to : ℕ) (y : Sent) (x : Piece) → p < w.parts → i < length w.feeds → find_sent w.sent i c to ≡ Some y → IsPieceFor w y p x → Knows w.hub x
+pub knows-piece : (w : WorldView) → HasHistory w → (p i c to : ℕ) (y : Sent) (x : Piece) → p < w.parts → i < length w.feeds → find_sent w.sent i c to ≡ Some y → IsPieceFor w y p x → Knows w.hub x
 knows-piece w story p i c to y x p_lt i_lt e of =
     let set = story.0 in
     let h = story.1 in
     let s = story.2 in
-    (set.parts, set.feeds, agreed_line set h, bases set h, vector set h, s.hub, known-is set w h s x (piece-of set w h s p i c to y x p_lt i_lt e of))
+    (story_of set h, s.epochs.hub, known-is set w h s x (piece-of set w h s p i c to y x p_lt i_lt e of))
 
-pub never-adrift : (w : WorldView) → HasStory w → (p i c to : ℕ) (y : Sent) (x : Piece) (t : Taken) (new : CoreView) → p < w.parts → i < length w.feeds → find_sent w.sent i c to ≡ Some y → IsPieceFor w y p x →
-    CoreTakes w.hub.core x t new → IsTold t
+pub never-adrift : (w : WorldView) → HasHistory w → (p i c to : ℕ) (y : Sent) (x : Piece) (t : Taken) (new : CoreView) → p < w.parts → i < length w.feeds → find_sent w.sent i c to ≡ Some y → IsPieceFor w y p x →
+    CoreTakes w.hub.core x t new → IsNotAdrift t
 never-adrift w story p i c to y x t new p_lt i_lt e of takes =
     let set = story.0 in
     let h = story.1 in
@@ -110,9 +110,9 @@ module _ (set : Setting) (w : WorldView) (h : List Event) (s : Stands set w h) (
   in_chains =
       let part = of.part in
       let node = of.node in
-      let parts = s.hub.core.parts_are in
-      let count = s.hub.core.nodes_are in
-      let chains = s.hub.core.core.chains x.part.0 [] (omega arith) in
+      let parts = s.epochs.hub.core.parts_are in
+      let count = s.epochs.hub.core.nodes_are in
+      let chains = s.epochs.hub.core.core.chains x.part.0 [] (omega arith) in
       omega arith
 
   at_part : (p i : ℕ) → p < set.parts → i < nodes set → (b : Bool) → eqb x.part.0 p ≡ b →
@@ -123,28 +123,35 @@ module _ (set : Setting) (w : WorldView) (h : List Event) (s : Stands set w h) (
       (subst (λ (ys : List Stamp). Chained set w h s x.part.0 i ys (chain_at (put (held_at w.hub.core.helds x.part.0) x.stamp.ingest.0 chain) i)) (sym arrived)
       (subst (Chained set w h s x.part.0 i (x.stamp ∷ delivered set h x.part.0)) (sym (get_or-set (held_at w.hub.core.helds x.part.0) x.stamp.ingest.0 i chain _ in_chains)) (at_node i i_lt (eqb x.stamp.ingest.0 i) refl)))
   at_part p i p_lt i_lt false e =
-      subst (λ (ys : List Stamp). Chained set w h s p i ys (chain_in w.hub p i)) (sym (cond-false (eqb x.part.0 p) _ _ e)) (s.chains p i p_lt i_lt)
+      subst (λ (ys : List Stamp). Chained set w h s p i ys (chain_in w.hub p i)) (sym (cond-false (eqb x.part.0 p) _ _ e)) (s.partitions.chains p i p_lt i_lt)
 
   deliver-stands : HubPlaces w.hub x taken_hub → Stands set (record w { hub = taken_hub }) (event.Deliver x.part x.stamp.ingest x.stamp.inc x.stamp.to ∷ h)
   deliver-stands places = record {
-    world = record { nodes = s.world.nodes; hub_nodes = s.world.hub_nodes; hub_parts = length-set w.hub.core.helds x.part.0 _ ∙ s.world.hub_parts };
-    feeds = s.feeds;
-    parts = s.parts;
-    limits = s.limits;
-    history = ((of.part, of.node), s.history);
-    ingests = s.ingests;
-    stamps = s.stamps;
-    chains = λ p i p_lt i_lt.
-        subst (λ (held : List ChainView). Chained set w h s p i (delivered set (event.Deliver x.part x.stamp.ingest x.stamp.inc x.stamp.to ∷ h) p) (chain_at held i))
-        (sym (get_or-set w.hub.core.helds x.part.0 p _ _ (let part = of.part in let parts = s.hub.core.parts_are in omega arith)))
-        (at_part p i p_lt i_lt (eqb x.part.0 p) refl);
-    rows = s.rows;
-    row_incs = s.row_incs;
-    row_tops = s.row_tops;
-    vectors = s.vectors;
-    committed_are = s.committed_are;
-    kept = s.kept;
-    hub = places _ _ _ _ _ (known-is set w h s x of) s.hub;
+    over = record {
+      world = record { nodes = s.over.world.nodes; hub_nodes = s.over.world.hub_nodes; hub_parts = length-set w.hub.core.helds x.part.0 _ ∙ s.over.world.hub_parts };
+      feeds = s.over.feeds;
+      parts = s.over.parts;
+      landmarks = s.over.landmarks;
+      limits = s.over.limits;
+      history = ((of.part, of.node), s.over.history);
+    };
+    nodes = record { ingests = s.nodes.ingests; stamps = s.nodes.stamps };
+    partitions = record {
+      chains = λ p i p_lt i_lt.
+          subst (λ (held : List ChainView). Chained set w h s p i (delivered set (event.Deliver x.part x.stamp.ingest x.stamp.inc x.stamp.to ∷ h) p) (chain_at held i))
+          (sym (get_or-set w.hub.core.helds x.part.0 p _ _ (let part = of.part in let parts = s.epochs.hub.core.parts_are in omega arith)))
+          (at_part p i p_lt i_lt (eqb x.part.0 p) refl);
+      rows = s.partitions.rows;
+      row_incs = s.partitions.row_incs;
+      row_tops = s.partitions.row_tops;
+    };
+    epochs = record {
+      vectors = s.epochs.vectors;
+      committed_are = s.epochs.committed_are;
+      kept = s.epochs.kept;
+      hub = places _ (known-is set w h s x of) s.epochs.hub;
+    };
+    mining = record { mined_is = s.mining.mined_is; open_is = s.mining.open_is; miner = s.mining.miner; quiet = s.mining.quiet };
   }
 
 -- the event of the piece's own ids is the delivery

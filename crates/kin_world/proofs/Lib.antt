@@ -18,3 +18,9 @@ pub mod Committing
 pub mod Unchanged
 pub mod Opening
 pub mod Moments
+pub mod Lagging
+pub mod Epochs
+pub mod Smalls
+pub mod Beginning
+pub mod Turning
+pub mod Mines

@@ -17,7 +17,7 @@ use Rattle.kin_world.specs.declared.sent_logs.Sent.{Sent}
 use Rattle.kin_world.specs.SentStamps.{find_sent}
 use Rattle.kin_world.specs.Worlds.{WorldView, node_at}
 use Rattle.kin_world.specs.Steps.{IsStamped, stamped}
-use Rattle.kin_world.specs.Stands.{Stands, HasStory}
+use Rattle.kin_world.specs.Stands.{Stands, HasHistory}
 use Rattle.kin_world.proofs.Facts.{good, node_in}
 use Rattle.kin_world.proofs.Sents.{find_sent-is, found_stamp, no_stamp, with_base}
 
@@ -40,7 +40,7 @@ module _ (set : Setting) (w : WorldView) (h : List Event) (s : Stands set w h) w
   lies_made i c x le made node of = has-made i c (sent set h) x ∙ and_from _ _ made (and_from _ _ (eq-eqb _ _ node) (eq-eqb _ _ of))
 
   pub found_is : (i c to : ℕ) → find_sent w.sent i c to ≡ option_map (with_base (bases set h)) (find_stamp (sent set h) i c to)
-  found_is i c to = ap (λ (ss : List Sent). find_sent ss i c to) s.stamps ∙ find_sent-is (bases set h) (sent set h) i c to
+  found_is i c to = ap (λ (ss : List Sent). find_sent ss i c to) s.nodes.stamps ∙ find_sent-is (bases set h) (sent set h) i c to
 
   pub stamp_of : (i c to : ℕ) (x : Sent) → find_sent w.sent i c to ≡ Some x → find_stamp (sent set h) i c to ≡ Some x.stamp
   stamp_of i c to x e = (found_stamp (bases set h) (find_stamp (sent set h) i c to) x (sym (found_is i c to) ∙ e)).stamp
@@ -72,7 +72,7 @@ module _ (set : Setting) (w : WorldView) (h : List Event) (s : Stands set w h) w
       }
 
 -- what is found may be split into pieces
-pub stamped-of : (w : WorldView) → HasStory w → (i c to : ℕ) (x : Sent) → i < length w.feeds → find_sent w.sent i c to ≡ Some x → IsStamped w x
+pub stamped-of : (w : WorldView) → HasHistory w → (i c to : ℕ) (x : Sent) → i < length w.feeds → find_sent w.sent i c to ≡ Some x → IsStamped w x
 stamped-of w story i c to x lt e =
     let s = story.2 in
     let of = made-of story.0 w story.1 s i c to x e in
@@ -81,17 +81,17 @@ stamped-of w story i c to x lt e =
       after_base = of.after_base;
       some = of.some;
       few = of.few;
-      inside = subst (λ (k : ℕ). x.stamp.to ≤ length (feed_at w.feeds k)) (sym of.node) (subst (λ (feeds : List (List Record)). x.stamp.to ≤ length (feed_at feeds i)) (sym s.feeds) of.inside);
+      inside = subst (λ (k : ℕ). x.stamp.to ≤ length (feed_at w.feeds k)) (sym of.node) (subst (λ (feeds : List (List Record)). x.stamp.to ≤ length (feed_at feeds i)) (sym s.over.feeds) of.inside);
     }
 
 -- a node's next position lies in its feed
-pub next-within : (w : WorldView) → HasStory w → (j : ℕ) → j < length w.feeds → (node_at w j).next ≤ (node_at w j).len
+pub next-within : (w : WorldView) → HasHistory w → (j : ℕ) → j < length w.feeds → (node_at w j).next ≤ (node_at w j).len
 next-within w story j lt =
-    let node = story.2.ingests j (node_in story.0 w story.1 story.2 j lt) in
+    let node = story.2.nodes.ingests j (node_in story.0 w story.1 story.2 j lt) in
     subst (λ (k : Ingest). k.next ≤ k.len) (sym node) (good story.0 w story.1 story.2 j).within
 
 -- a node's next stamp wasn't made yet
-pub unsent : (w : WorldView) → HasStory w → (j n : ℕ) (x : Stamp) → j < length w.feeds → x ≡ stamped w j n → x.from < x.to → find_sent w.sent x.ingest.0 x.inc.0 x.to ≡ None
+pub unsent : (w : WorldView) → HasHistory w → (j n : ℕ) (x : Stamp) → j < length w.feeds → x ≡ stamped w j n → x.from < x.to → find_sent w.sent x.ingest.0 x.inc.0 x.to ≡ None
 unsent w story j n x lt is some = go (find_sent w.sent x.ingest.0 x.inc.0 x.to) refl
   where
     go : (o : Option Sent) → find_sent w.sent x.ingest.0 x.inc.0 x.to ≡ o → o ≡ None
@@ -100,7 +100,7 @@ unsent w story j n x lt is some = go (find_sent w.sent x.ingest.0 x.inc.0 x.to) 
         let set = story.0 in
         let h = story.1 in
         let s = story.2 in
-        let node = s.ingests j (node_in set w h s j lt) in
+        let node = s.nodes.ingests j (node_in set w h s j lt) in
         let new : x ≡ new_stamp set h j n = is ∙ ap (λ (k : Ingest). next_stamp k.len k.id.0 k.inc.0 k.next n) node in
         let of = made-of set w h s x.ingest.0 x.inc.0 x.to y e in
         let g = good set w h s j in

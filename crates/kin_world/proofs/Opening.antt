@@ -12,7 +12,9 @@ use Rattle.kin_held.specs.ChainOf.{IsChainOf}
 use Rattle.kin_table.specs.Tables.{RowView, no_report}
 use Rattle.kin_hub.specs.Hubs.{HubView, chain_in, row_in, committed_in, first_in}
 use Rattle.kin_hub.specs.Stands.{HubStands}
-use Rattle.kin_hub.specs.Opens.{first_hub, no_lines, first_bases, no_vectors}
+use Rattle.kin_hub.specs.Opens.{first_hub, first_story}
+use Rattle.kin_ids.specs.Graph.{empty_graph}
+use Rattle.kin_mine.specs.Miners.{MinerView, IsMinerOf}
 use Rattle.kin_world.specs.Opens.{AreFirst}
 use Rattle.kin_world.specs.Stands.{Stands}
 
@@ -23,25 +25,35 @@ no_chain-is nodes parts p i p_lt i_lt =
 no_row-is : (nodes parts p : ℕ) → p < parts → row_in (first_hub nodes parts) p ≡ no_report nodes
 no_row-is nodes parts p p_lt = get_or-replicate parts p (no_report nodes) (no_report 0) p_lt
 
-pub first-stands : (feeds : List (List Record)) (parts : ℕ) (landmarks : List User) (ingests : List Ingest) (hub : HubView) → AreWithinLimits feeds → AreFirst feeds ingests → hub ≡ first_hub (length feeds) parts →
-    HubStands parts feeds no_lines first_bases no_vectors hub →
-    Stands (record { feeds = feeds; parts = parts; landmarks = landmarks }) (record { feeds = feeds; parts = parts; ingests = ingests; sent = []; hub = hub }) []
-first-stands feeds parts landmarks ingests hub limits first is stands = record {
-  world = record { nodes = first.count; hub_nodes = stands.core.nodes_are; hub_parts = stands.core.parts_are };
-  feeds = refl;
-  parts = refl;
-  limits = limits;
-  history = tt;
-  ingests = first.each;
-  stamps = refl;
-  chains = λ p i p_lt i_lt.
-      subst (IsChainOf i 0 0 0 [] [] []) (sym (ap (λ (v : HubView). chain_in v p i) is ∙ no_chain-is (length feeds) parts p i p_lt i_lt))
-      (record { floor = refl; inc = refl; held = refl; top = refl; early = λ s. refl });
-  rows = λ p p_lt. ap (λ (v : HubView). (row_in v p).reported) is ∙ ap (λ (row : RowView). row.reported) (no_row-is (length feeds) parts p p_lt);
-  row_incs = λ p i p_lt i_lt told. absurd (false≢true told);
-  row_tops = λ p i p_lt i_lt told. absurd (false≢true told);
-  vectors = ap (λ (v : HubView). length v.core.table.vectors) is;
-  committed_are = λ p p_lt. ap (λ (v : HubView). committed_in v p) is ∙ get_or-replicate parts p 0 0 p_lt;
-  kept = ap (λ (v : HubView). first_in v) is;
-  hub = stands;
+pub first-stands : (feeds : List (List Record)) (parts : ℕ) (landmarks : List User) (ingests : List Ingest) (hub : HubView) (miner : MinerView) → AreWithinLimits feeds → AreFirst feeds ingests → hub ≡ first_hub (length feeds) parts →
+    HubStands (first_story feeds parts) hub → miner.landmarks ≡ landmarks → miner.active ≡ [] → IsMinerOf empty_graph 0 miner →
+    Stands (record { feeds = feeds; parts = parts; landmarks = landmarks }) (record { feeds = feeds; parts = parts; ingests = ingests; sent = []; hub = hub; miner = miner; mined = 0; is_open = false }) []
+first-stands feeds parts landmarks ingests hub miner limits first is stands landmarks_are quiet mines = record {
+  over = record {
+    world = record { nodes = first.count; hub_nodes = stands.core.nodes_are; hub_parts = stands.core.parts_are };
+    feeds = refl;
+    parts = refl;
+    landmarks = landmarks_are;
+    limits = limits;
+    history = tt;
+  };
+  nodes = record {
+    ingests = first.each;
+    stamps = refl;
+  };
+  partitions = record {
+    chains = λ p i p_lt i_lt.
+        subst (IsChainOf i 0 0 0 [] [] []) (sym (ap (λ (v : HubView). chain_in v p i) is ∙ no_chain-is (length feeds) parts p i p_lt i_lt))
+        (record { floor = refl; inc = refl; held = refl; top = refl; early = λ s. refl });
+    rows = λ p p_lt. ap (λ (v : HubView). (row_in v p).reported) is ∙ ap (λ (row : RowView). row.reported) (no_row-is (length feeds) parts p p_lt);
+    row_incs = λ p i p_lt i_lt told. absurd (false≢true told);
+    row_tops = λ p i p_lt i_lt told. absurd (false≢true told);
+  };
+  epochs = record {
+    vectors = ap (λ (v : HubView). length v.core.table.vectors) is;
+    committed_are = λ p p_lt. ap (λ (v : HubView). committed_in v p) is ∙ get_or-replicate parts p 0 0 p_lt;
+    kept = ap (λ (v : HubView). first_in v) is;
+    hub = stands;
+  };
+  mining = record { mined_is = refl; open_is = refl; miner = mines; quiet = λ _. quiet };
 }

@@ -22,7 +22,7 @@ use Rattle.kin_hub.specs.Stands.{HubStands}
 use Rattle.kin_hub.specs.Goes.{HubRaises, grown}
 use Rattle.kin_world.specs.Worlds.{WorldView}
 use Rattle.kin_world.specs.Steps.{told_raise}
-use Rattle.kin_world.specs.Stands.{Stands, Keeps, agreed_line}
+use Rattle.kin_world.specs.Stands.{Stands, Keeps, agreed_line, story_of}
 use Rattle.kin_world.proofs.Facts.{node_in, agreed_is}
 use Rattle.kin_world.proofs.Ready.{ready-is, raised-line}
 
@@ -52,21 +52,23 @@ module _ (set : Setting) (w : WorldView) (h : List Event) (s : Stands set w h) (
 
   pub raise-stands : HubRaises w.hub j.0 (raised_hub w.hub j.0) → Stands set (record w { hub = raised_hub w.hub j.0 }) (event.Raise j ∷ h)
   raise-stands raises = record {
-    world = record { nodes = s.world.nodes; hub_nodes = length-set w.hub.core.table.agreed j.0 _ ∙ s.world.hub_nodes; hub_parts = s.world.hub_parts };
-    feeds = s.feeds;
-    parts = s.parts;
-    limits = s.limits;
-    history = (lt, s.history);
-    ingests = s.ingests;
-    stamps = s.stamps;
-    chains = s.chains;
-    rows = s.rows;
-    row_incs = s.row_incs;
-    row_tops = s.row_tops;
-    vectors = s.vectors;
-    committed_are = s.committed_are;
-    kept = s.kept;
-    hub = subst (λ (lines : ℕ → List Stamp). HubStands set.parts set.feeds lines (bases set h) (vector set h) (raised_hub w.hub j.0)) (fun_ext lines-are) (raises _ _ _ _ _ s.hub);
+    over = record {
+      world = record { nodes = s.over.world.nodes; hub_nodes = length-set w.hub.core.table.agreed j.0 _ ∙ s.over.world.hub_nodes; hub_parts = s.over.world.hub_parts };
+      feeds = s.over.feeds;
+      parts = s.over.parts;
+      landmarks = s.over.landmarks;
+      limits = s.over.limits;
+      history = (lt, s.over.history);
+    };
+    nodes = record { ingests = s.nodes.ingests; stamps = s.nodes.stamps };
+    partitions = record { chains = s.partitions.chains; rows = s.partitions.rows; row_incs = s.partitions.row_incs; row_tops = s.partitions.row_tops };
+    epochs = record {
+      vectors = s.epochs.vectors;
+      committed_are = s.epochs.committed_are;
+      kept = s.epochs.kept;
+      hub = subst (λ (lines : ℕ → List Stamp). HubStands (record (story_of set h) { lines = lines }) (raised_hub w.hub j.0)) (fun_ext lines-are) (raises _ s.epochs.hub);
+    };
+    mining = record { mined_is = s.mining.mined_is; open_is = s.mining.open_is; miner = s.mining.miner; quiet = s.mining.quiet };
   }
 
 pub raise-keeps : (old : WorldView) (j : IngestId) (o : Outcome) (hub : HubView) → j.0 < length old.feeds → o ≡ told_raise (raised_of (agreed_in old.hub j.0) (ready old.hub.core j.0)) →

@@ -12,7 +12,7 @@ use Rattle.kin_history.specs.Lines.{inc, line, sent, base, top_in, seen, deliver
 use Rattle.kin_history.proofs.Made.{unreported, reported-delivered}
 use Rattle.kin_history.proofs.Seen.{agreed-least, ack-is, grew, row-within, seen-within}
 use Rattle.kin_held.specs.Chains.{ChainView, chain_at}
-use Rattle.kin_held.proofs.Cuts.{end_of-past}
+use Rattle.kin_ids.proofs.Joins.{past-end_of}
 use Rattle.kin_table.specs.Tables.{inc_in, reach_of}
 use Rattle.kin_hub.specs.Cores.{held_at, least_reach, past_in, ready_run, ready}
 use Rattle.kin_hub.specs.Fronts.{common_of}
@@ -38,10 +38,10 @@ module _ (set : Setting) (w : WorldView) (h : List Event) (s : Stands set w h) (
           unwrap_or (cond b (Some (get_or (row_in w.hub p).tops i 0)) None) (agreed_in w.hub i) ≡ ack set h p i
       go true e =
           let parts = and_parts _ _ e in
-          let told : has_reported set h p ≡ true = sym (s.rows p p_lt) ∙ parts.0 in
-          let same : seen_in (reported set h p) i ≡ inc set h i = sym (s.row_incs p i p_lt lt told) ∙ (eqb-true _ _ parts.1 ∙ inc_is set w h s i lt) in
+          let told : has_reported set h p ≡ true = sym (s.partitions.rows p p_lt) ∙ parts.0 in
+          let same : seen_in (reported set h p) i ≡ inc set h i = sym (s.partitions.row_incs p i p_lt lt told) ∙ (eqb-true _ _ parts.1 ∙ inc_is set w h s i lt) in
           let g = good set w h s i in
-          s.row_tops p i p_lt lt told ∙ (ap (top_in set (reported set h p) h i) same ∙ sym (ack-is set h i (reported set h p) g (g.acks p p_lt)))
+          s.partitions.row_tops p i p_lt lt told ∙ (ap (top_in set (reported set h p) h i) same ∙ sym (ack-is set h i (reported set h p) g (g.acks p p_lt)))
       go false e =
           let g = good set w h s i in
           let le = g.acks p p_lt in
@@ -49,14 +49,14 @@ module _ (set : Setting) (w : WorldView) (h : List Event) (s : Stands set w h) (
           (λ (beyond : agreed set h i < ack set h p i).
           let yes : has_reported set h p ≡ true = true_from_ne_false _ (λ n.
           let none = ap (λ ys. end_of 0 (front_in ys (line set h i))) (unreported set h p n) ∙ empty (line set h i) in absurd (omega arith)) in
-          absurd (both_ways _ e (and_from _ _ (s.rows p p_lt ∙ yes) (eq-eqb _ _ (s.row_incs p i p_lt lt yes ∙ (last_row p beyond ∙ sym (inc_is set w h s i lt)))))))
+          absurd (both_ways _ e (and_from _ _ (s.partitions.rows p p_lt ∙ yes) (eq-eqb _ _ (s.partitions.row_incs p i p_lt lt yes ∙ (last_row p beyond ∙ sym (inc_is set w h s i lt)))))))
           (λ (ge : ack set h p i ≤ agreed set h i). omega arith)
           (cases_lt (agreed set h i) (ack set h p i))
 
   least-is : least_reach w.hub.core i ≡ least_ack set h i
   least-is =
       let reach = λ (p : ℕ). reach_of w.hub.core.table p i in
-      let rows : length w.hub.core.table.rows ≡ set.parts = sym s.hub.core.core.parts ∙ s.hub.core.parts_are in
+      let rows : length w.hub.core.table.rows ≡ set.parts = sym s.epochs.hub.core.core.parts ∙ s.epochs.hub.core.parts_are in
       ap (λ (n : ℕ). least_from (reach 0) n reach) rows
       ∙ (ap (λ (m : ℕ). least_from m set.parts reach) (reach-is 0 (some_parts set w h s))
       ∙ least-alike (ack set h 0 i) set.parts reach (λ p. ack set h p i) reach-is)
@@ -90,7 +90,7 @@ module _ (set : Setting) (w : WorldView) (h : List Event) (s : Stands set w h) (
       let to = there.1 in
       (front-has D L x (front-upto D 0 L x g.run there.0 (omega arith))).1 in
       let split : upto b L ++ front_in D (made_by i (inc set h i) (sent set h)) ≡ front_in D L = sym (ap (front_in D) g.split ∙ front_in-append D (upto b L) (made_by i (inc set h i) (sent set h)) all) in
-      (s.chains p i p_lt lt).held
+      (s.partitions.chains p i p_lt lt).held
       ∙ (ap (λ (f : ℕ). past f (upto (base set h i (seen set h p i)) L ++ front_in D (made_by i (seen set h p i) (sent set h)))) (sym (floor_is set w h s i lt p p_lt))
       ∙ (ap (λ (c : ℕ). past (chain_in w.hub p i).floor (upto (base set h i c) L ++ front_in D (made_by i c (sent set h)))) same
       ∙ ap (past (chain_in w.hub p i).floor) split))
@@ -118,7 +118,7 @@ module _ (set : Setting) (w : WorldView) (h : List Event) (s : Stands set w h) (
   pub ready_run-is : ready_run w.hub.core i ≡ past (agreed set h i) (upto (least_ack set h i) (line set h i))
   ready_run-is =
       let helds = w.hub.core.helds in
-      let parts = s.hub.core.parts_are in
+      let parts = s.epochs.hub.core.parts_are in
       let some = some_parts set w h s in
       let runs = past_in helds (agreed set h i) i in
       let count : length runs ≡ length helds = length-map helds (λ (held : List ChainView). past (agreed set h i) (stamps_of (chain_at held i).held)) in
@@ -146,5 +146,5 @@ module _ (set : Setting) (w : WorldView) (h : List Event) (s : Stands set w h) (
       let g = good set w h s i in
       ap (λ (n : ℕ). end_of n (ready_run w.hub.core i)) (agreed_is set w h s i lt)
       ∙ (ap (end_of a) ready_run-is
-      ∙ (end_of-past 0 a (upto m L) (upto-line 0 m L g.run) (upto-ends 0 m a L g.run g.ends at_least)
+      ∙ (past-end_of 0 a (upto m L) (upto-line 0 m L g.run) (upto-ends 0 m a L g.run g.ends at_least)
       ∙ upto-end 0 m L g.run least_ends))

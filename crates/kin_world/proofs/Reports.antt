@@ -30,15 +30,15 @@ module _ (set : Setting) (w : WorldView) (h : List Event) (s : Stands set w h) (
 
   at_row : (q : ℕ) → row_in (reported_hub w.hub p.0) q ≡ cond (eqb p.0 q) (row_of (held_at w.hub.core.helds p.0)) (row_in w.hub q)
   at_row q =
-      let rows = s.hub.core.core.parts in
-      let parts = s.hub.core.parts_are in
+      let rows = s.epochs.hub.core.core.parts in
+      let parts = s.epochs.hub.core.parts_are in
       get_or-set w.hub.core.table.rows p.0 q _ _ (omega arith)
 
   within : (i : ℕ) → i < nodes set → i < length (held_at w.hub.core.helds p.0)
   within i i_lt =
-      let parts = s.hub.core.parts_are in
-      let count = s.hub.core.nodes_are in
-      let chains = s.hub.core.core.chains p.0 [] (omega arith) in
+      let parts = s.epochs.hub.core.parts_are in
+      let count = s.epochs.hub.core.nodes_are in
+      let chains = s.epochs.hub.core.core.chains p.0 [] (omega arith) in
       omega arith
 
   at_reported : (b : Bool) (row : RowView) (was : Bool) → row.reported ≡ was → (cond b (row_of (held_at w.hub.core.helds p.0)) row).reported ≡ cond b true was
@@ -49,34 +49,41 @@ module _ (set : Setting) (w : WorldView) (h : List Event) (s : Stands set w h) (
       inc_in (cond b (row_of (held_at w.hub.core.helds p.0)) (row_in w.hub q)).incs i ≡ seen_in (cond b (delivered set h q) (reported set h q)) i
   at_incs q i q_lt i_lt true e told =
       ap (λ (c : Inc). c.0) (get_or-map kept_inc (held_at w.hub.core.helds p.0) i no_chain _ (within i i_lt))
-      ∙ ((s.chains p.0 i lt i_lt).inc ∙ ap (λ (k : ℕ). seen_in (delivered set h k) i) (eqb-true p.0 q e))
-  at_incs q i q_lt i_lt false e told = s.row_incs q i q_lt i_lt told
+      ∙ ((s.partitions.chains p.0 i lt i_lt).inc ∙ ap (λ (k : ℕ). seen_in (delivered set h k) i) (eqb-true p.0 q e))
+  at_incs q i q_lt i_lt false e told = s.partitions.row_incs q i q_lt i_lt told
 
   at_tops : (q i : ℕ) → q < set.parts → i < nodes set → (b : Bool) → eqb p.0 q ≡ b → cond b true (has_reported set h q) ≡ true →
       get_or (cond b (row_of (held_at w.hub.core.helds p.0)) (row_in w.hub q)).tops i 0
       ≡ top_in set (cond b (delivered set h q) (reported set h q)) h i (seen_in (cond b (delivered set h q) (reported set h q)) i)
   at_tops q i q_lt i_lt true e told =
       get_or-map (λ (chain : ChainView). chain.top) (held_at w.hub.core.helds p.0) i no_chain 0 (within i i_lt)
-      ∙ ((s.chains p.0 i lt i_lt).top ∙ ap (λ (k : ℕ). top_in set (delivered set h k) h i (seen_in (delivered set h k) i)) (eqb-true p.0 q e))
-  at_tops q i q_lt i_lt false e told = s.row_tops q i q_lt i_lt told
+      ∙ ((s.partitions.chains p.0 i lt i_lt).top ∙ ap (λ (k : ℕ). top_in set (delivered set h k) h i (seen_in (delivered set h k) i)) (eqb-true p.0 q e))
+  at_tops q i q_lt i_lt false e told = s.partitions.row_tops q i q_lt i_lt told
 
   pub report-stands : HubKeeps w.hub (reported_hub w.hub p.0) → Stands set (record w { hub = reported_hub w.hub p.0 }) (event.Report p ∷ h)
   report-stands keeps = record {
-    world = record { nodes = s.world.nodes; hub_nodes = s.world.hub_nodes; hub_parts = s.world.hub_parts };
-    feeds = s.feeds;
-    parts = s.parts;
-    limits = s.limits;
-    history = (lt, s.history);
-    ingests = s.ingests;
-    stamps = s.stamps;
-    chains = s.chains;
-    rows = λ q q_lt. ap (λ (row : RowView). row.reported) (at_row q) ∙ at_reported (eqb p.0 q) (row_in w.hub q) (has_reported set h q) (s.rows q q_lt);
-    row_incs = λ q i q_lt i_lt told. ap (λ (row : RowView). inc_in row.incs i) (at_row q) ∙ at_incs q i q_lt i_lt (eqb p.0 q) refl told;
-    row_tops = λ q i q_lt i_lt told. ap (λ (row : RowView). get_or row.tops i 0) (at_row q) ∙ at_tops q i q_lt i_lt (eqb p.0 q) refl told;
-    vectors = s.vectors;
-    committed_are = s.committed_are;
-    kept = s.kept;
-    hub = keeps _ _ _ _ _ s.hub;
+    over = record {
+      world = record { nodes = s.over.world.nodes; hub_nodes = s.over.world.hub_nodes; hub_parts = s.over.world.hub_parts };
+      feeds = s.over.feeds;
+      parts = s.over.parts;
+      landmarks = s.over.landmarks;
+      limits = s.over.limits;
+      history = (lt, s.over.history);
+    };
+    nodes = record { ingests = s.nodes.ingests; stamps = s.nodes.stamps };
+    partitions = record {
+      chains = s.partitions.chains;
+      rows = λ q q_lt. ap (λ (row : RowView). row.reported) (at_row q) ∙ at_reported (eqb p.0 q) (row_in w.hub q) (has_reported set h q) (s.partitions.rows q q_lt);
+      row_incs = λ q i q_lt i_lt told. ap (λ (row : RowView). inc_in row.incs i) (at_row q) ∙ at_incs q i q_lt i_lt (eqb p.0 q) refl told;
+      row_tops = λ q i q_lt i_lt told. ap (λ (row : RowView). get_or row.tops i 0) (at_row q) ∙ at_tops q i q_lt i_lt (eqb p.0 q) refl told;
+    };
+    epochs = record {
+      vectors = s.epochs.vectors;
+      committed_are = s.epochs.committed_are;
+      kept = s.epochs.kept;
+      hub = keeps _ s.epochs.hub;
+    };
+    mining = record { mined_is = s.mining.mined_is; open_is = s.mining.open_is; miner = s.mining.miner; quiet = s.mining.quiet };
   }
 
 pub report-keeps : (old : WorldView) (p : PartId) (hub : HubView) → p.0 < old.parts → hub ≡ reported_hub old.hub p.0 → HubKeeps old.hub hub → Keeps old (event.Report p) outcome.Reported (record old { hub = hub })

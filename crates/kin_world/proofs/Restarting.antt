@@ -28,7 +28,7 @@ use Rattle.kin_hub.specs.Stands.{HubStands}
 use Rattle.kin_hub.specs.Goes.{HubSeals, based}
 use Rattle.kin_world.specs.Worlds.{WorldView, node_at}
 use Rattle.kin_world.specs.Steps.{after_restart, Restarts, MayRestart}
-use Rattle.kin_world.specs.Stands.{Stands, Keeps, node_of, with_bases, agreed_line}
+use Rattle.kin_world.specs.Stands.{Stands, Keeps, node_of, with_bases, agreed_line, story_of}
 use Rattle.kin_world.proofs.Facts.{good, node_in, agreed_is, inc_is}
 use Rattle.kin_world.proofs.Refusals.{refused-keeps}
 use Rattle.kin_world.proofs.Sents.{with_bases-alike}
@@ -51,10 +51,10 @@ inc-most set (_ ∷ h) i = inc-most set h i
 
 module _ (set : Setting) (w : WorldView) (h : List Event) (s : Stands set w h) (j : IngestId) (lt : j.0 < nodes set) where
   up_is : (node_at w j.0).up ≡ up set h j.0
-  up_is = ap (λ (node : Ingest). node.up) (s.ingests j.0 lt)
+  up_is = ap (λ (node : Ingest). node.up) (s.nodes.ingests j.0 lt)
 
   node_inc : (node_at w j.0).inc.0 ≡ inc set h j.0
-  node_inc = ap (λ (node : Ingest). node.inc.0) (s.ingests j.0 lt)
+  node_inc = ap (λ (node : Ingest). node.inc.0) (s.nodes.ingests j.0 lt)
 
   pub may-restart : MayRestart w j.0
   may-restart =
@@ -62,7 +62,7 @@ module _ (set : Setting) (w : WorldView) (h : List Event) (s : Stands set w h) (
       let end = end_within 0 (line set h j.0) (agreed set h j.0) g.run g.ends in
       let within = g.within in
       let at = agreed_is set w h s j.0 lt in
-      let len : (node_at w j.0).len ≡ feed_len set j.0 = ap (λ (node : Ingest). node.len) (s.ingests j.0 lt) in
+      let len : (node_at w j.0).len ≡ feed_len set j.0 = ap (λ (node : Ingest). node.len) (s.nodes.ingests j.0 lt) in
       record { inc = inc_is set w h s j.0 lt ∙ sym node_inc; within = omega arith }
 
   module _ (c : Inc) (a : ℕ) (down : up set h j.0 ≡ false) (left : inc set h j.0 < 65535) (c_is : c.0 ≡ inc set h j.0 + 1) (a_is : a ≡ agreed set h j.0) where
@@ -95,7 +95,7 @@ module _ (set : Setting) (w : WorldView) (h : List Event) (s : Stands set w h) (
         let base_now : a ≡ base set (event.Restart j ∷ h) j.0 new_inc = a_is ∙ sym (ap (base set (event.Restart j ∷ h) j.0) is_back.inc_is ∙ new_base set h j.0 j.0 is_back g) in
         let next_now : a ≡ next set (event.Restart j ∷ h) j.0 = a_is ∙ sym (ap (end_of 0) is_back.line_is ∙ upto-end 0 at (line set h j.0) g.run g.ends) in
         let up_now : up set (event.Restart j ∷ h) j.0 ≡ true = cond-true _ _ _ here in
-        ap (λ (node : Ingest). record node { inc = c; base = a; next = a; up = true }) (s.ingests j.0 lt)
+        ap (λ (node : Ingest). record node { inc = c; base = a; next = a; up = true }) (s.nodes.ingests j.0 lt)
         ∙ (ap (λ (k : ℕ). node_with k a a true) inc_now
         ∙ (ap (λ (x : ℕ). node_with new_inc x a true) base_now
         ∙ (ap (λ (y : ℕ). node_with new_inc (base set (event.Restart j ∷ h) j.0 new_inc) y true) next_now
@@ -103,7 +103,7 @@ module _ (set : Setting) (w : WorldView) (h : List Event) (s : Stands set w h) (
 
     at_node : (i : ℕ) → i < nodes set → (b : Bool) → eqb j.0 i ≡ b → ◌≡◌ {A = Ingest} (cond b (record (node_at w j.0) { inc = c; base = a; next = a; up = true }) (node_at w i)) (node_of set (event.Restart j ∷ h) i)
     at_node i i_lt true e = subst (λ (k : ℕ). ◌≡◌ {A = Ingest} (record (node_at w j.0) { inc = c; base = a; next = a; up = true }) (node_of set (event.Restart j ∷ h) k)) (eqb-true j.0 i e) node_is
-    at_node i i_lt false e = let off : (eqb j.0 i && comes_back (up set h i) (inc set h i)) ≡ false = and_left _ _ e in rw off (s.ingests i i_lt)
+    at_node i i_lt false e = let off : (eqb j.0 i && comes_back (up set h i) (inc set h i)) ≡ false = and_left _ _ e in rw off (s.nodes.ingests i i_lt)
 
     bases-are : (i : ℕ) → based (bases set h) j.0 (agreed_in w.hub j.0) i ≡ bases set (event.Restart j ∷ h) i
     bases-are i = go (eqb j.0 i) refl
@@ -117,40 +117,50 @@ module _ (set : Setting) (w : WorldView) (h : List Event) (s : Stands set w h) (
     restart-stands : HubSeals w.hub j.0 (record w.hub { core = with_seal w.hub.core j.0 }) → Stands set (after_restart w j.0 c a) (event.Restart j ∷ h)
     restart-stands seals =
         let g = good set w h s in
-        let in_feeds : j.0 < length w.feeds = subst (λ feeds. j.0 < length feeds) (sym s.feeds) lt in
+        let in_feeds : j.0 < length w.feeds = subst (λ feeds. j.0 < length feeds) (sym s.over.feeds) lt in
         let sealed : HubView = record w.hub { core = with_seal w.hub.core j.0 } in
-        let based_hub = subst (λ (bs : ℕ → List ℕ). HubStands set.parts set.feeds (agreed_line set h) bs (vector set h) sealed) (fun_ext bases-are) (seals _ _ _ _ _ s.hub) in
+        let based_hub = subst (λ (bs : ℕ → List ℕ). HubStands (record (story_of set h) { bases = bs }) sealed) (fun_ext bases-are) (seals _ s.epochs.hub) in
         record {
-          world = record { nodes = length-set w.ingests j.0 _ ∙ s.world.nodes; hub_nodes = s.world.hub_nodes; hub_parts = s.world.hub_parts };
-          feeds = s.feeds;
-          parts = s.parts;
-          limits = s.limits;
-          history = (lt, s.history);
-          ingests = λ i i_lt. get_or-set w.ingests j.0 i _ _ (rw s.world.nodes in_feeds) ∙ at_node i i_lt (eqb j.0 i) refl;
-          stamps = s.stamps ∙ with_bases-alike (bases set h) (bases set (event.Restart j ∷ h)) (sent set h) (λ x k. sym (base-kept set h g j.0 x.ingest.0 x.inc.0 ((g x.ingest.0).later x k refl)));
-          chains = λ p i p_lt i_lt.
-              let chain = s.chains p i p_lt i_lt in
-              let k = seen set h p i in
-              let D = delivered set h p in
-              let within = seen-within set h i p (g i) in
-              let same = base-kept set h g j.0 i k within in
-              let before : upto (base set (event.Restart j ∷ h) i k) (line set (event.Restart j ∷ h) i) ≡ upto (base set h i k) (line set h i) =
-              ap (λ (b : ℕ). upto b (line set (event.Restart j ∷ h) i)) same ∙ upto-kept set h g j.0 i (base set h i k) ((g i).older k within) in
-              record {
-                floor = chain.floor;
-                inc = chain.inc;
-                held = chain.held ∙ ap (λ ys. past (vector set h (committed set h p) i) (ys ++ front_in D (made_by i k (sent set h)))) (sym before);
-                top = chain.top ∙ ap (λ (b : ℕ). end_of b (front_in D (made_by i k (sent set h)))) (sym same);
-                early = chain.early;
-              };
-          rows = s.rows;
-          row_incs = s.row_incs;
-          row_tops = λ p i p_lt i_lt told. s.row_tops p i p_lt i_lt told
-              ∙ ap (λ (b : ℕ). end_of b (front_in (reported set h p) (made_by i (seen_in (reported set h p) i) (sent set h)))) (sym (base-kept set h g j.0 i (seen_in (reported set h p) i) (row-within set h i p (g i))));
-          vectors = s.vectors;
-          committed_are = s.committed_are;
-          kept = s.kept;
-          hub = subst (λ (lines : ℕ → List Stamp). HubStands set.parts set.feeds lines (bases set (event.Restart j ∷ h)) (vector set h) sealed) (fun_ext (λ i. sym (upto-kept set h g j.0 i (agreed set h i) (omega arith)))) based_hub;
+          over = record {
+            world = record { nodes = length-set w.ingests j.0 _ ∙ s.over.world.nodes; hub_nodes = s.over.world.hub_nodes; hub_parts = s.over.world.hub_parts };
+            feeds = s.over.feeds;
+            parts = s.over.parts;
+            landmarks = s.over.landmarks;
+            limits = s.over.limits;
+            history = (lt, s.over.history);
+          };
+          nodes = record {
+            ingests = λ i i_lt. get_or-set w.ingests j.0 i _ _ (rw s.over.world.nodes in_feeds) ∙ at_node i i_lt (eqb j.0 i) refl;
+            stamps = s.nodes.stamps ∙ with_bases-alike (bases set h) (bases set (event.Restart j ∷ h)) (sent set h) (λ x k. sym (base-kept set h g j.0 x.ingest.0 x.inc.0 ((g x.ingest.0).later x k refl)));
+          };
+          partitions = record {
+            chains = λ p i p_lt i_lt.
+                let chain = s.partitions.chains p i p_lt i_lt in
+                let k = seen set h p i in
+                let D = delivered set h p in
+                let within = seen-within set h i p (g i) in
+                let same = base-kept set h g j.0 i k within in
+                let before : upto (base set (event.Restart j ∷ h) i k) (line set (event.Restart j ∷ h) i) ≡ upto (base set h i k) (line set h i) =
+                ap (λ (b : ℕ). upto b (line set (event.Restart j ∷ h) i)) same ∙ upto-kept set h g j.0 i (base set h i k) ((g i).older k within) in
+                record {
+                  floor = chain.floor;
+                  inc = chain.inc;
+                  held = chain.held ∙ ap (λ ys. past (vector set h (committed set h p) i) (ys ++ front_in D (made_by i k (sent set h)))) (sym before);
+                  top = chain.top ∙ ap (λ (b : ℕ). end_of b (front_in D (made_by i k (sent set h)))) (sym same);
+                  early = chain.early;
+                };
+            rows = s.partitions.rows;
+            row_incs = s.partitions.row_incs;
+            row_tops = λ p i p_lt i_lt told. s.partitions.row_tops p i p_lt i_lt told
+                ∙ ap (λ (b : ℕ). end_of b (front_in (reported set h p) (made_by i (seen_in (reported set h p) i) (sent set h)))) (sym (base-kept set h g j.0 i (seen_in (reported set h p) i) (row-within set h i p (g i))));
+          };
+          epochs = record {
+            vectors = s.epochs.vectors;
+            committed_are = s.epochs.committed_are;
+            kept = s.epochs.kept;
+            hub = subst (λ (lines : ℕ → List Stamp). HubStands (record (story_of set h) { lines = lines; bases = bases set (event.Restart j ∷ h) }) sealed) (fun_ext (λ i. sym (upto-kept set h g j.0 i (agreed set h i) (omega arith)))) based_hub;
+          };
+          mining = record { mined_is = s.mining.mined_is; open_is = s.mining.open_is; miner = s.mining.miner; quiet = s.mining.quiet };
         }
 
 pub restart-keeps : (old : WorldView) (j : IngestId) (o : Outcome) (new : WorldView) → j.0 < length old.feeds → Restarts old j.0 o new → Keeps old (event.Restart j) o new

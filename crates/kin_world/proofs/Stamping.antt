@@ -25,7 +25,7 @@ use Rattle.kin_hub.specs.Stands.{HubStands}
 use Rattle.kin_world.specs.declared.sent_logs.Sent.{Sent}
 use Rattle.kin_world.specs.Worlds.{WorldView, node_at}
 use Rattle.kin_world.specs.Steps.{stamped, after_stamp, Stamps}
-use Rattle.kin_world.specs.Stands.{Stands, Keeps, node_of, with_bases, agreed_line}
+use Rattle.kin_world.specs.Stands.{Stands, Keeps, node_of, with_bases, agreed_line, story_of}
 use Rattle.kin_world.proofs.Facts.{good, node_in}
 use Rattle.kin_world.proofs.Refusals.{refused-keeps}
 use Rattle.kin_world.proofs.Sents.{with_base, with_bases-push}
@@ -53,14 +53,14 @@ module _ (set : Setting) (h : List Event) (g : (i : ℕ) → IsSound set h i) (j
 
 module _ (set : Setting) (w : WorldView) (h : List Event) (s : Stands set w h) (j : IngestId) (n : ℕ) (lt : j.0 < nodes set) where
   up_is : (node_at w j.0).up ≡ up set h j.0
-  up_is = ap (λ (node : Ingest). node.up) (s.ingests j.0 lt)
+  up_is = ap (λ (node : Ingest). node.up) (s.nodes.ingests j.0 lt)
 
   -- whether the node has stamped its whole feed
   at_end : (b : Bool) → eqb (node_at w j.0).next (node_at w j.0).len ≡ b → eqb (next set h j.0) (feed_len set j.0) ≡ b
-  at_end b e = sym (ap (λ (node : Ingest). eqb node.next node.len) (s.ingests j.0 lt)) ∙ e
+  at_end b e = sym (ap (λ (node : Ingest). eqb node.next node.len) (s.nodes.ingests j.0 lt)) ∙ e
 
   made_is : stamped w j.0 n ≡ new_stamp set h j.0 n
-  made_is = ap (λ (node : Ingest). next_stamp node.len node.id.0 node.inc.0 node.next n) (s.ingests j.0 lt)
+  made_is = ap (λ (node : Ingest). next_stamp node.len node.id.0 node.inc.0 node.next n) (s.nodes.ingests j.0 lt)
 
   module _ (some : 0 < n) (few : n ≤ 16) (is : up set h j.0 ≡ true) (more : eqb (next set h j.0) (feed_len set j.0) ≡ false) where
     stamp-answers : outcome.Stamped (stamped w j.0 n) ≡ outcome_of set h (event.Stamp j n)
@@ -73,9 +73,9 @@ module _ (set : Setting) (w : WorldView) (h : List Event) (s : Stands set w h) (
         let new_next : ℕ → ℕ = λ k. end_of 0 (cond (up set h k) (with_next (feed_len set k) k (inc set h k) n (line set h k)) (line set h k)) in
         let to : min (next set h j.0 + n) (feed_len set j.0) ≡ new_next j.0 =
         sym (ap (end_of 0) (cond-true (up set h j.0) _ _ is ∙ cond-false (eqb (next set h j.0) (feed_len set j.0)) _ _ more) ∙ end_of-append 0 (line set h j.0) _) in
-        ap (λ (node : Ingest). record node { next = (next_stamp node.len node.id.0 node.inc.0 node.next n).to }) (s.ingests j.0 lt)
+        ap (λ (node : Ingest). record node { next = (next_stamp node.len node.id.0 node.inc.0 node.next n).to }) (s.nodes.ingests j.0 lt)
         ∙ (ap (node_with j.0) to ∙ ap (λ (k : ℕ). node_with k (new_next k)) (eqb-true j.0 i e))
-    at_node i i_lt false e = s.ingests i i_lt
+    at_node i i_lt false e = s.nodes.ingests i i_lt
 
     sent_is : sent set (event.Stamp j n ∷ h) ≡ sent set h ++ new_stamp set h j.0 n ∷ []
     sent_is = cond-true (up set h j.0 && not (eqb (next set h j.0) (feed_len set j.0))) _ _ (and_from _ _ is (ap not more))
@@ -83,43 +83,53 @@ module _ (set : Setting) (w : WorldView) (h : List Event) (s : Stands set w h) (
     stamp-stands : Stands set (after_stamp w j.0 (stamped w j.0 n)) (event.Stamp j n ∷ h)
     stamp-stands =
         let g = good set w h s in
-        let in_feeds : j.0 < length w.feeds = subst (λ feeds. j.0 < length feeds) (sym s.feeds) lt in
+        let in_feeds : j.0 < length w.feeds = subst (λ feeds. j.0 < length feeds) (sym s.over.feeds) lt in
         let kept : (i : ℕ) → agreed_line set (event.Stamp j n ∷ h) i ≡ agreed_line set h i =
         λ i. upto-stamp set h g j.0 n some i (agreed set h i) (end_within 0 (line set h i) (agreed set h i) (g i).run (g i).ends) in
         record {
-          world = record { nodes = length-set w.ingests j.0 _ ∙ s.world.nodes; hub_nodes = s.world.hub_nodes; hub_parts = s.world.hub_parts };
-          feeds = s.feeds;
-          parts = s.parts;
-          limits = s.limits;
-          history = ((lt, some, few), s.history);
-          ingests = λ i i_lt. get_or-set w.ingests j.0 i _ _ (rw s.world.nodes in_feeds) ∙ at_node i i_lt (eqb j.0 i) refl;
-          stamps = ap (λ (ys : List Sent). ys ++ record { stamp = stamped w j.0 n; base = (node_at w j.0).base } ∷ []) s.stamps
-              ∙ (ap (λ (node : Ingest). let new : Sent = record { stamp = next_stamp node.len node.id.0 node.inc.0 node.next n; base = node.base } in with_bases (bases set h) (sent set h) ++ new ∷ []) (s.ingests j.0 lt)
-              ∙ (sym (with_bases-push (bases set h) (sent set h) (new_stamp set h j.0 n)) ∙ ap (with_bases (bases set h)) (sym sent_is)));
-          chains = λ p i p_lt i_lt.
-              let chain = s.chains p i p_lt i_lt in
-              let c = seen set h p i in
-              let D = delivered set h p in
-              let front = front-made set h g j.0 n some i c D (delivered-sent set h p) in
-              let older = (g i).older c (seen-within set h i p (g i)) in
-              let end = end_within 0 (line set h i) (agreed set h i) (g i).run (g i).ends in
-              let before = upto-stamp set h g j.0 n some i (base set h i c) (omega arith) in
-              record {
-                floor = chain.floor;
-                inc = chain.inc;
-                held = chain.held ∙ (ap (λ ys. past (vector set h (committed set h p) i) (ys ++ front_in D (made_by i c (sent set h)))) (sym before)
-                    ∙ ap (λ ys. past (vector set h (committed set h p) i) (upto (base set h i c) (line set (event.Stamp j n ∷ h) i) ++ ys)) (sym front));
-                top = chain.top ∙ ap (end_of (base set h i c)) (sym front);
-                early = chain.early;
-              };
-          rows = s.rows;
-          row_incs = s.row_incs;
-          row_tops = λ p i p_lt i_lt told. s.row_tops p i p_lt i_lt told
-              ∙ ap (end_of (base set h i (seen_in (reported set h p) i))) (sym (front-made set h g j.0 n some i (seen_in (reported set h p) i) (reported set h p) (reported-sent set h p)));
-          vectors = s.vectors;
-          committed_are = s.committed_are;
-          kept = s.kept;
-          hub = subst (λ (lines : ℕ → List Stamp). HubStands set.parts set.feeds lines (bases set h) (vector set h) w.hub) (fun_ext (λ i. sym (kept i))) s.hub;
+          over = record {
+            world = record { nodes = length-set w.ingests j.0 _ ∙ s.over.world.nodes; hub_nodes = s.over.world.hub_nodes; hub_parts = s.over.world.hub_parts };
+            feeds = s.over.feeds;
+            parts = s.over.parts;
+            landmarks = s.over.landmarks;
+            limits = s.over.limits;
+            history = ((lt, some, few), s.over.history);
+          };
+          nodes = record {
+            ingests = λ i i_lt. get_or-set w.ingests j.0 i _ _ (rw s.over.world.nodes in_feeds) ∙ at_node i i_lt (eqb j.0 i) refl;
+            stamps = ap (λ (ys : List Sent). ys ++ record { stamp = stamped w j.0 n; base = (node_at w j.0).base } ∷ []) s.nodes.stamps
+                ∙ (ap (λ (node : Ingest). let new : Sent = record { stamp = next_stamp node.len node.id.0 node.inc.0 node.next n; base = node.base } in with_bases (bases set h) (sent set h) ++ new ∷ []) (s.nodes.ingests j.0 lt)
+                ∙ (sym (with_bases-push (bases set h) (sent set h) (new_stamp set h j.0 n)) ∙ ap (with_bases (bases set h)) (sym sent_is)));
+          };
+          partitions = record {
+            chains = λ p i p_lt i_lt.
+                let chain = s.partitions.chains p i p_lt i_lt in
+                let c = seen set h p i in
+                let D = delivered set h p in
+                let front = front-made set h g j.0 n some i c D (delivered-sent set h p) in
+                let older = (g i).older c (seen-within set h i p (g i)) in
+                let end = end_within 0 (line set h i) (agreed set h i) (g i).run (g i).ends in
+                let before = upto-stamp set h g j.0 n some i (base set h i c) (omega arith) in
+                record {
+                  floor = chain.floor;
+                  inc = chain.inc;
+                  held = chain.held ∙ (ap (λ ys. past (vector set h (committed set h p) i) (ys ++ front_in D (made_by i c (sent set h)))) (sym before)
+                      ∙ ap (λ ys. past (vector set h (committed set h p) i) (upto (base set h i c) (line set (event.Stamp j n ∷ h) i) ++ ys)) (sym front));
+                  top = chain.top ∙ ap (end_of (base set h i c)) (sym front);
+                  early = chain.early;
+                };
+            rows = s.partitions.rows;
+            row_incs = s.partitions.row_incs;
+            row_tops = λ p i p_lt i_lt told. s.partitions.row_tops p i p_lt i_lt told
+                ∙ ap (end_of (base set h i (seen_in (reported set h p) i))) (sym (front-made set h g j.0 n some i (seen_in (reported set h p) i) (reported set h p) (reported-sent set h p)));
+          };
+          epochs = record {
+            vectors = s.epochs.vectors;
+            committed_are = s.epochs.committed_are;
+            kept = s.epochs.kept;
+            hub = subst (λ (lines : ℕ → List Stamp). HubStands (record (story_of set h) { lines = lines }) w.hub) (fun_ext (λ i. sym (kept i))) s.epochs.hub;
+          };
+          mining = record { mined_is = s.mining.mined_is; open_is = s.mining.open_is; miner = s.mining.miner; quiet = s.mining.quiet };
         }
 
 pub stamp-keeps : (old : WorldView) (j : IngestId) (n : ℕ) (o : Outcome) (new : WorldView) → j.0 < length old.feeds → 0 < n → n ≤ 16 → Stamps old j.0 n o new → Keeps old (event.Stamp j n) o new

@@ -22,7 +22,7 @@ use Rattle.kin_held.specs.declared.answers.Taken.TheVariants as taken
 use Rattle.kin_held.proofs.Taking.{taken_is, other-chain, entered-chain}
 use Rattle.kin_hub.specs.Hubs.{chain_in}
 use Rattle.kin_world.specs.Worlds.{WorldView}
-use Rattle.kin_world.specs.Steps.{told, IsTold}
+use Rattle.kin_world.specs.Steps.{told, IsNotAdrift}
 use Rattle.kin_world.specs.Stands.{Stands}
 use Rattle.kin_world.proofs.Facts.{good, agreed_is, inc_is, floor_is, floor_low, reached, whole, ends}
 
@@ -59,14 +59,14 @@ module _ (set : Setting) (w : WorldView) (h : List Event) (s : Stands set w h) w
   pub other-node : (p i : ℕ) (t : Stamp) → p < set.parts → i < nodes set → t.ingest.0 ≢ i → Chained p i (t ∷ delivered set h p) (chain_in w.hub p i)
   other-node p i t p_lt i_lt ne =
       as_seen p i (seen set h p i) (t ∷ delivered set h p) (chain_in w.hub p i) (cond-false (eqb t.ingest.0 i) _ _ (ne_eqb _ _ ne))
-      (other-chain i (seen set h p i) (base set h i (seen set h p i)) (vector set h (committed set h p) i) (delivered set h p) _ _ t _ (s.chains p i p_lt i_lt) (ours i (seen set h p i)) (and_left _ _ (ne_eqb _ _ ne)))
+      (other-chain i (seen set h p i) (base set h i (seen set h p i)) (vector set h (committed set h p) i) (delivered set h p) _ _ t _ (s.partitions.chains p i p_lt i_lt) (ours i (seen set h p i)) (and_left _ _ (ne_eqb _ _ ne)))
 
   module _ (p : ℕ) (x : Piece) (p_lt : p < set.parts) (lt : x.stamp.ingest.0 < nodes set) (made : has (sent set h) x.stamp ≡ true) (based : x.base ≡ base set h x.stamp.ingest.0 x.stamp.inc.0) where
     within : x.stamp.inc.0 ≤ inc set h x.stamp.ingest.0
     within = (good set w h s x.stamp.ingest.0).later x.stamp made refl
 
     kept_is : (chain_in w.hub p x.stamp.ingest.0).inc ≡ seen set h p x.stamp.ingest.0
-    kept_is = (s.chains p x.stamp.ingest.0 p_lt lt).inc
+    kept_is = (s.partitions.chains p x.stamp.ingest.0 p_lt lt).inc
 
     is_here : (c : ℕ) → x.stamp.inc.0 ≡ c → has (made_by x.stamp.ingest.0 c (sent set h)) x.stamp ≡ true
     is_here c e = has-made x.stamp.ingest.0 c (sent set h) x.stamp ∙ and_from _ _ made (and_from _ _ (eq-eqb _ _ refl) (eq-eqb _ _ e))
@@ -87,7 +87,7 @@ module _ (set : Setting) (w : WorldView) (h : List Event) (s : Stands set w h) w
         let at = agreed_is set w h s j lt in
         let last = inc_is set w h s j lt in
         ⊎_elim (λ (beyond : base set h j c < agreed set h j).
-        let kept = (s.hub.core.chains p j p_lt lt).seen c (omega arith) (omega arith) in
+        let kept = (s.epochs.hub.core.chains p j p_lt lt).seen c (omega arith) (omega arith) in
         absurd (omega arith))
         (λ (ge : agreed set h j ≤ base set h j c). omega arith)
         (cases_lt (base set h j c) (agreed set h j))
@@ -96,7 +96,7 @@ module _ (set : Setting) (w : WorldView) (h : List Event) (s : Stands set w h) w
     place_is later = subst (IsEnd (chain_in w.hub p x.stamp.ingest.0).floor (stamps_of (chain_in w.hub p x.stamp.ingest.0).held)) (at_agreed later) (ends set w h s x.stamp.ingest.0 lt p p_lt)
 
     -- so the piece isn't adrift
-    pub is_told : (t : Taken) (new : ChainView) → Takes (chain_in w.hub p x.stamp.ingest.0) x t new → IsTold t
+    pub is_told : (t : Taken) (new : ChainView) → Takes (chain_in w.hub p x.stamp.ingest.0) x t new → IsNotAdrift t
     is_told (taken.Held top) new takes = tt
     is_told (taken.Early top) new takes = tt
     is_told taken.Repeat new takes = tt
@@ -135,7 +135,7 @@ module _ (set : Setting) (w : WorldView) (h : List Event) (s : Stands set w h) w
         let low = floor_low set w h s j lt p p_lt in
         let high = reached set w h s j lt p p_lt in
         placed (chain_in w.hub p j) t new (omega arith) (omega arith)
-        (subst (λ (k : ℕ). IsChainOf j k (base set h j k) (vector set h (committed set h p) j) (delivered set h p) (upto (base set h j k) (line set h j)) (made_by j k (sent set h)) (chain_in w.hub p j)) (sym c) (s.chains p j p_lt lt))
+        (subst (λ (k : ℕ). IsChainOf j k (base set h j k) (vector set h (committed set h p) j) (delivered set h p) (upto (base set h j k) (line set h j)) (made_by j k (sent set h)) (chain_in w.hub p j)) (sym c) (s.partitions.chains p j p_lt lt))
         places
 
     later_inc : (t : Taken) (new : ChainView) → (chain_in w.hub p x.stamp.ingest.0).inc < x.stamp.inc.0 → Places (entered (chain_in w.hub p x.stamp.ingest.0) x) x t new → Took t new
@@ -174,7 +174,7 @@ module _ (set : Setting) (w : WorldView) (h : List Event) (s : Stands set w h) w
         let stale : ℕ → Outcome = λ n. outcome.Stale (record { 0 = n }) in
         record {
           chain = subst (Chained p j (x.stamp ∷ delivered set h p)) (sym takes.2) (as_seen p j (seen set h p j) (x.stamp ∷ delivered set h p) (chain_in w.hub p j) now
-              (other-chain j (seen set h p j) (base set h j (seen set h p j)) (vector set h (committed set h p) j) (delivered set h p) _ _ x.stamp _ (s.chains p j p_lt lt) (ours j (seen set h p j)) (and_right _ _ (ne_eqb _ _ differ))));
+              (other-chain j (seen set h p j) (base set h j (seen set h p j)) (vector set h (committed set h p) j) (delivered set h p) _ _ x.stamp _ (s.partitions.chains p j p_lt lt) (ours j (seen set h p j)) (and_right _ _ (ne_eqb _ _ differ))));
           answers = ap stale (takes.1 ∙ kept) ∙ sym (cond-true (ltb x.stamp.inc.0 (seen set h p j)) _ _ (lt-ltb _ _ less));
         }
     took (taken.Adrift b f top) new takes = absurd (takes.1 (place_is takes.0))

@@ -12,10 +12,11 @@ use Rattle.kin_history.specs.Mining.{mined}
 use Rattle.kin_held.specs.declared.answers.Taken.{Taken}
 use Rattle.kin_hub.specs.Cores.{CoreView, CoreTakes, ready}
 use Rattle.kin_blocks.specs.Snaps.{joined}
-use Rattle.kin_blocks.specs.Wholes.{IsWhole, told_out, told_in}
+use Rattle.kin_ids.specs.Wholes.{IsViewOf}
+use Rattle.kin_blocks.specs.Wholes.{told_out, told_in}
 use Rattle.kin_hub.specs.Hubs.{KeepsEpoch, agreed_in, inc_in, snap_in}
 use Rattle.kin_world.specs.Worlds.{WorldView}
-use Rattle.kin_world.specs.Steps.{IsTold}
+use Rattle.kin_world.specs.Steps.{IsNotAdrift}
 use Rattle.kin_world.specs.Stands.{Stands}
 
 -- The hub's agreed position and incarnation of a node are the history's, and the ready position is the least that the partitions have
@@ -32,12 +33,12 @@ AgreementLaw = (set : Setting) (w : WorldView) (h : List Event) (i : ℕ) → St
 abbrev pub AdriftLaw : Type 0
 AdriftLaw = (set : Setting) (w : WorldView) (h : List Event) (x : Piece) (taken : Taken) (new : CoreView) → Stands set w h →
     x.part.0 < set.parts → x.stamp.ingest.0 < nodes set → has (sent set h) x.stamp ≡ true →
-    x.base ≡ base set h x.stamp.ingest.0 x.stamp.inc.0 → CoreTakes w.hub.core x taken new → IsTold taken
+    x.base ≡ base set h x.stamp.ingest.0 x.stamp.inc.0 → CoreTakes w.hub.core x taken new → IsNotAdrift taken
 
 -- What a kept epoch's stores are: the graph of all records within the history's vector, whole. No edge has one half only, and both halves
 -- tell the same of it.
 pub record IsOneMoment (set : Setting) (w : WorldView) (h : List Event) (k : ℕ) : Type 0 where
-  pub whole : IsWhole (snapshot set.feeds (vector set h) k) (joined (snap_in w.hub k))
+  pub whole : IsViewOf (snapshot set.feeds (vector set h) k) (joined (snap_in w.hub k))
   pub halves : (u v : User) → told_out (joined (snap_in w.hub k)) u v ≡ told_in (joined (snap_in w.hub k)) u v
 
 -- An epoch is kept exactly where every partition has committed it and it isn't before the last mined one; and then it is one moment.

@@ -3,6 +3,7 @@ pub mod SentEntries
 pub mod Worlds
 pub mod Opens
 pub mod Steps
+pub mod Mining
 pub mod Stands
 pub mod Runs
 pub mod Laws

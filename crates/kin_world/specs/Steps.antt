@@ -104,12 +104,12 @@ told (taken.Stale c) = outcome.Stale c
 told (taken.Adrift b f t) = outcome.Repeat
 
 -- an answer that a world may get
-abbrev pub IsTold : Taken → Type 0
-IsTold (taken.Held top) = Unit {0}
-IsTold (taken.Early top) = Unit {0}
-IsTold taken.Repeat = Unit {0}
-IsTold (taken.Stale c) = Unit {0}
-IsTold (taken.Adrift b f t) = ⊥
+abbrev pub IsNotAdrift : Taken → Type 0
+IsNotAdrift (taken.Held top) = Unit {0}
+IsNotAdrift (taken.Early top) = Unit {0}
+IsNotAdrift taken.Repeat = Unit {0}
+IsNotAdrift (taken.Stale c) = Unit {0}
+IsNotAdrift (taken.Adrift b f t) = ⊥
 
 -- partition p takes the piece of a stamp, and all else stays
 pub record TakesPiece (old : WorldView) (s : Sent) (p : ℕ) (o : Outcome) (new : WorldView) : Type 0 where

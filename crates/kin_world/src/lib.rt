@@ -6,6 +6,7 @@ pub mod laws;
 pub mod runs;
 pub mod sent_logs;
 mod told;
+mod turns;
 pub mod worlds;
 
 pub use runs::run;

@@ -2,87 +2,31 @@
 
 ghost use Rattle.std.specs.Prelude.{◌≡◌, ◌<◌, ◌≤◌, All, IsTrue};
 ghost use Rattle.kin_history.specs.Setting.{IsEvent};
-ghost use Rattle.kin_world.specs.Worlds.{IsBuilt, HasRoom, setting_of};
+ghost use Rattle.kin_world.specs.Worlds.{HasRoom, setting_of};
 
 use crate::{Sent, World, run};
 use kin_feed::read_feed;
-use kin_graph::{Steps, View};
-use kin_hub::Snap;
 use kin_ids::{Epoch, Inc, IngestId, PartId, Stamp, User};
 use kin_script::{Event, Outcome, Refusal};
 use std::alloc::Global;
-use std::marker::Brand;
 use std::process::Abort;
-use std::sync::ledger::{Blank, Ledger};
 use std::test::Fail;
 
-fn stamp(ingest: u16, n: u64) -> Event {
-    Event::Stamp {
-        ingest: IngestId(ingest),
-        n,
-    }
-}
+const NODE: IngestId = IngestId(0);
 
-fn deliver(part: u16, ingest: u16, inc: u16, to: u64) -> Event {
-    Event::Deliver {
-        part: PartId(part),
-        ingest: IngestId(ingest),
-        inc: Inc(inc),
-        to,
-    }
-}
+const PART: PartId = PartId(0);
 
-fn report(part: u16) -> Event {
-    Event::Report { part: PartId(part) }
-}
-
-fn raise(ingest: u16) -> Event {
-    Event::Raise {
-        ingest: IngestId(ingest),
-    }
-}
-
-fn crash(ingest: u16) -> Event {
-    Event::Crash {
-        ingest: IngestId(ingest),
-    }
-}
-
-fn restart(ingest: u16) -> Event {
-    Event::Restart {
-        ingest: IngestId(ingest),
-    }
-}
-
-fn commit(part: u16) -> Event {
-    Event::Commit { part: PartId(part) }
-}
-
-// The stamp of node 0 under this incarnation.
-fn stamp_of(inc: u16, from: u64, to: u64) -> Stamp {
-    Stamp {
-        ingest: IngestId(0),
-        inc: Inc(inc),
-        from,
-        to,
-    }
-}
-
-fn stamped(inc: u16, from: u64, to: u64) -> Outcome {
-    Outcome::Stamped(stamp_of(inc, from, to))
-}
-
-fn restarted(inc: u16, base: u64) -> Outcome {
-    Outcome::Restarted {
-        inc: Inc(inc),
-        base,
-    }
-}
+// The delivery of the first record.
+const DELIVERY: Event = Event::Deliver {
+    part: PART,
+    ingest: NODE,
+    inc: Inc(0),
+    to: 1,
+};
 
 // Whether the world takes the event.
 fn fits(world: &World, event: Event) -> bool
     ensures event { IsTrue result → IsEvent (setting_of world.now) event }
-    ensures built { IsTrue result → IsBuilt event }
     ensures room { IsTrue result → HasRoom world.now event }
 {
     let nodes = world.feeds().len();
@@ -97,168 +41,62 @@ fn fits(world: &World, event: Event) -> bool
         }
         Event::Cut { n: None } => room,
         Event::Cut { n: Some(n) } => room && 0 < n && n <= 2097152,
-        _ => false,
+        Event::Begin | Event::Turn { .. } | Event::Mine => true,
     }
 }
 
-// A world of one feed.
-fn world_of(alloc: Global, feed: &[u8], parts: u16) -> Result<World, Fail>
-    requires some { 0 < parts }
-    requires few { parts ≤ 64 }
-{
+// A world of one feed and one partition.
+fn world_of(alloc: Global, feed: &[u8]) -> Result<World, Fail> {
     let mut feeds = Vec::new(alloc);
     feeds.push(read_feed(alloc, feed, 100)?)?;
-    Ok(World::open(alloc, feeds, parts)?)
+    Ok(World::open(alloc, feeds, 1, &[User(1)])?)
 }
 
-// Each event gets the answer beside it.
-fn assert_answers<R: Abort + AllocGlobal>(
-    rt: &R,
-    world: &mut World,
-    steps: &[(Event, Outcome)],
-) -> Result<(), Fail> {
-    for (number, (event, answer)) in (1..).zip(steps) {
-        assert!(rt; fits(world, *event), "event {number}");
-        let outcome = world.step(*event)?;
-        assert_eq!(rt; outcome, *answer, "event {number}");
-    }
-    Ok(())
+fn answer<R: Abort>(rt: &R, world: &mut World, event: Event) -> Result<Outcome, Fail> {
+    assert!(rt; fits(world, event));
+    Ok(world.step(event)?)
 }
 
 #[test]
 fn stamps_that_were_made(rt: HostRuntime) -> Result<(), Fail> {
-    let mut world = world_of(rt.alloc(), b"f,1,2\nf,3,4\n", 1)?;
-    assert_answers(
-        &rt,
-        &mut world,
-        &[
-            (stamp(0, 1), stamped(0, 0, 1)),
-            (deliver(0, 0, 0, 1), Outcome::Held(1)),
-            (report(0), Outcome::Reported),
-            (raise(0), Outcome::Raised(1)),
-        ],
-    )?;
-    assert_answers(
-        &rt,
-        &mut world,
-        &[
-            (crash(0), Outcome::Crashed),
-            (restart(0), restarted(1, 1)),
-            (stamp(0, 4), stamped(1, 1, 2)),
-        ],
-    )?;
-    let sent = Sent {
-        stamp: stamp_of(1, 1, 2),
-        base: 1,
+    let mut world = world_of(rt.alloc(), b"f,1,2\nf,3,4\n")?;
+    answer(&rt, &mut world, Event::Stamp { ingest: NODE, n: 1 })?;
+    answer(&rt, &mut world, Event::Stamp { ingest: NODE, n: 4 })?;
+    let stamp = Stamp {
+        ingest: NODE,
+        inc: Inc(0),
+        from: 1,
+        to: 2,
     };
+    let sent = Sent { stamp, base: 0 };
     assert!(&rt; world.sent_count() == 2 && world.sent_at(1) == Some(sent));
-    assert!(&rt; world.find_sent(IngestId(0), Inc(1), 2) == Some(sent));
-    assert!(&rt; world.find_sent(IngestId(0), Inc(0), 2).is_none());
+    assert!(&rt; world.find_sent(NODE, Inc(0), 2) == Some(sent));
+    assert!(&rt; world.find_sent(NODE, Inc(1), 2).is_none());
     Ok(())
 }
 
 #[test]
 fn incarnations_run_out(rt: HostRuntime) -> Result<(), Fail> {
-    let mut world = world_of(rt.alloc(), b"f,1,2\n", 1)?;
+    let mut world = world_of(rt.alloc(), b"f,1,2\n")?;
     for inc in 1..=65535 {
-        assert_answers(
-            &rt,
-            &mut world,
-            &[
-                (crash(0), Outcome::Crashed),
-                (restart(0), restarted(inc, 0)),
-            ],
-        )?;
+        answer(&rt, &mut world, Event::Crash { ingest: NODE })?;
+        let back = answer(&rt, &mut world, Event::Restart { ingest: NODE })?;
+        assert!(&rt;
+            back == Outcome::Restarted {
+                inc: Inc(inc),
+                base: 0
+            }
+        );
     }
-    assert_answers(
-        &rt,
-        &mut world,
-        &[
-            (crash(0), Outcome::Crashed),
-            (restart(0), Outcome::Refused(Refusal::IncarnationsSpent)),
-        ],
-    )
-}
-
-// One more record comes to both partitions, and ends the epoch after these.
-fn end_epoch<R: Abort + AllocGlobal>(rt: &R, world: &mut World, before: u16) -> Result<(), Fail> {
-    let from = u64::from(before);
-    let to = from + 1;
-    let epoch = Epoch(u32::from(before) + 1);
-    assert_answers(
-        rt,
-        world,
-        &[
-            (stamp(0, 1), stamped(0, from, to)),
-            (deliver(0, 0, 0, to), Outcome::Held(to)),
-            (deliver(1, 0, 0, to), Outcome::Held(to)),
-        ],
-    )?;
-    assert_answers(
-        rt,
-        world,
-        &[
-            (report(0), Outcome::Reported),
-            (report(1), Outcome::Reported),
-            (raise(0), Outcome::Raised(to)),
-            (Event::Cut { n: None }, Outcome::CutMade(epoch)),
-        ],
-    )
-}
-
-// A partition commits this epoch, or has committed all that is cut.
-fn assert_commit<R: Abort + AllocGlobal>(
-    rt: &R,
-    world: &mut World,
-    part: u16,
-    epoch: Option<u32>,
-) -> Result<(), Fail> {
-    let answer = match epoch {
-        Some(k) => Outcome::Committed(Epoch(k)),
-        None => Outcome::Refused(Refusal::NothingCut),
-    };
-    assert_answers(rt, world, &[(commit(part), answer)])
-}
-
-// Whether user 1 follows, where exactly one half out of it was ever added.
-fn follows_by<L: Ledger>(snap: &Snap, blank: Blank) -> Option<bool>
-    requires name { blank.name ≡ L.name }
-    requires parts { (blank.parts ≡ L.parts) × (0 < L.parts) }
-{
-    let mut steps = Steps::<L>::new(blank);
-    match snap.out(User(1), &mut steps) {
-        [half] => Some(half.present),
-        _ => None,
-    }
-}
-
-// What user 1 does in the snapshot of an epoch, where it is kept.
-fn follows(world: &World, k: u32) -> Option<bool> {
-    let snap = world.hub().snapshot(Epoch(k))?;
-    follows_by::<Brand>(snap, Blank::new(1))
-}
-
-#[test]
-fn snapshots_that_stay(rt: HostRuntime) -> Result<(), Fail> {
-    let mut world = world_of(rt.alloc(), b"f,1,2\nx,1,2\n", 2)?;
-    end_epoch(&rt, &mut world, 0)?;
-    assert_commit(&rt, &mut world, 0, Some(1))?;
-    assert!(&rt; world.hub().snapshot(Epoch(1)).is_none());
-    assert_commit(&rt, &mut world, 1, Some(1))?;
-    assert!(&rt; follows(&world, 1) == Some(true));
-    assert_commit(&rt, &mut world, 1, None)?;
-    end_epoch(&rt, &mut world, 1)?;
-    assert_commit(&rt, &mut world, 1, Some(2))?;
-    assert_commit(&rt, &mut world, 0, Some(2))?;
-    assert!(&rt; follows(&world, 1) == Some(true));
-    assert!(&rt; follows(&world, 2) == Some(false));
+    answer(&rt, &mut world, Event::Crash { ingest: NODE })?;
+    let back = answer(&rt, &mut world, Event::Restart { ingest: NODE })?;
+    assert!(&rt; back == Outcome::Refused(Refusal::IncarnationsSpent));
     Ok(())
 }
 
 // Whether the world takes each of the events.
 fn all_fit(world: &World, events: &[Event]) -> bool
-    ensures events { IsTrue result → All (IsEvent (setting_of world.now)) events.now }
-    ensures built { IsTrue result → All IsBuilt events.now }
+    ensures { IsTrue result → All (IsEvent (setting_of world.now)) events.now }
 {
     for event in events {
         if !fits(world, *event) {
@@ -268,19 +106,43 @@ fn all_fit(world: &World, events: &[Event]) -> bool
     true
 }
 
+// The first record is stamped, comes, and is agreed.
+fn agree<R: Abort + AllocGlobal>(rt: &R, world: &mut World) -> Result<(), Fail> {
+    let mut events = vec![in rt.alloc(); DELIVERY; 1]?;
+    events.insert(0, Event::Stamp { ingest: NODE, n: 1 })?;
+    events.push(Event::Report { part: PART })?;
+    events.push(Event::Raise { ingest: NODE })?;
+    assert!(rt; all_fit(world, &events));
+    assert!(rt; world.hub().cuts() == 0);
+    let told = run(rt.alloc(), world, &events)?;
+    assert!(rt; told.as_slice().last() == Some(&Outcome::Raised(1)));
+    Ok(())
+}
+
+// How many events the drain has, and the last answer.
+fn drain<R: Abort>(rt: &R, world: &mut World) -> Result<(u64, Option<Outcome>), Fail> {
+    let mut last = None;
+    for count in 0..100 {
+        let Some(event) = world.drain_next() else {
+            return Ok((count, last));
+        };
+        last = Some(answer(rt, world, event)?);
+    }
+    Ok((100, last))
+}
+
 #[test]
-fn events_in_turn(rt: HostRuntime) -> Result<(), Fail> {
-    let mut world = world_of(rt.alloc(), b"f,1,2\n", 1)?;
-    let events = [stamp(0, 1), deliver(0, 0, 0, 1), report(0), raise(0)];
-    assert!(&rt; all_fit(&world, &events));
-    assert!(&rt; world.hub().cuts() == 0);
-    let told = run(rt.alloc(), &mut world, &events)?;
-    let expected = [
-        stamped(0, 0, 1),
-        Outcome::Held(1),
-        Outcome::Reported,
-        Outcome::Raised(1),
-    ];
-    assert!(&rt; told.as_slice() == expected.as_slice());
+fn a_drain(rt: HostRuntime) -> Result<(), Fail> {
+    let mut world = world_of(rt.alloc(), b"f,1,2\n")?;
+    agree(&rt, &mut world)?;
+    assert!(&rt; drain(&rt, &mut world)? == (0, None));
+    answer(&rt, &mut world, Event::Cut { n: None })?;
+    answer(&rt, &mut world, Event::Cut { n: Some(1) })?;
+    let (count, last) = drain(&rt, &mut world)?;
+    assert!(&rt; count == 4 && last == Some(Outcome::Mined(Epoch(2))));
+    assert!(&rt; world.hub().snapshot(Epoch(1)).is_none());
+    assert!(&rt; world.hub().snapshot(Epoch(2)).is_some());
+    let values = world.miner().result()?;
+    assert!(&rt; values.epoch() == Epoch(2));
     Ok(())
 }

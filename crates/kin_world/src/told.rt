@@ -2,13 +2,13 @@
 
 ghost use Rattle.std.specs.Prelude.{◌≡◌};
 ghost use Rattle.kin_world.specs.Steps as steps;
-ghost use Rattle.kin_world.specs.Steps.{IsTold};
+ghost use Rattle.kin_world.specs.Steps.{IsNotAdrift};
 
 use kin_hub::{Raised, Taken};
 use kin_script::Outcome;
 
 pub(crate) fn told(taken: Taken) -> Outcome
-    requires { IsTold taken }
+    requires { IsNotAdrift taken }
     ensures { result ≡ steps.told taken }
 {
     match taken {

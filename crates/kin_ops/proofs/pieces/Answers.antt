@@ -3,11 +3,12 @@ use Rattle.std.proofs.lemmas.Result.{IfOk-weaker}
 use Rattle.kin_ops.specs.Pieces.{AreSpread, ArePiecesOf}
 use Rattle.kin_ids.specs.Operations.{all_ops}
 use Rattle.kin_ops.proofs.Spreading.{length-labelled, spread-pieces, pieces-fit}
+use Rattle.kin_ops.proofs.Wanting.{wanted-all}
 use Rattle.kin_ops.proofs.pieces.Goals as goal
 
 -- the lists hold the operations of the transaction's records
 spread-lists : (c : goal.After-drop-ops-inside-2) → AreSpread c.args.parts c.in_ok-lists.lists.items (all_ops c.args.stamp.from c.args.records.now)
-spread-lists c = subst (AreSpread c.args.parts c.in_ok-lists.lists.items) (c.as_slice.ensures ∙ c.in_ok-ops.ensures) c.in_ok-lists.ensures
+spread-lists c = subst (AreSpread c.args.parts c.in_ok-lists.lists.items) (c.as_slice.ensures ∙ (c.in_ok-ops.ensures ∙ wanted-all (all_ops c.args.stamp.from c.args.records.now))) c.in_ok-lists.ensures
 
 pub returns-clause-count : goal.returns-clause-count
 returns-clause-count c =

@@ -1,5 +1,5 @@
 -- Worked rows: what stands in an epoch.
-use Rattle.std.specs.Prelude.{◌≡◌, List, [], ◌∷◌, codes, true, false}
+use Rattle.std.specs.Prelude.{◌≡◌, [], ◌∷◌, codes, true, false}
 use Rattle.kin_report.specs.RowWords.{follow, unfollow, stamp, deliver, report, raise, cut, commit, mine, all_rules, no_rules, setting, prints, text}
 
 -- two follows of one user, stamped as one transaction

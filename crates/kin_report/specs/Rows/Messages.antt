@@ -1,5 +1,5 @@
 -- Worked rows: pieces that come often or in the wrong order.
-use Rattle.std.specs.Prelude.{◌≡◌, List, [], ◌∷◌, codes, true}
+use Rattle.std.specs.Prelude.{◌≡◌, [], ◌∷◌, codes, true}
 use Rattle.kin_report.specs.RowWords.{follow, tweet, at, stamp, deliver, report, raise, cut, all_rules, setting, prints, text}
 
 -- a piece that comes three times counts once

@@ -1,5 +1,5 @@
 -- Worked rows: the agreed order and cuts with a number.
-use Rattle.std.specs.Prelude.{◌≡◌, List, [], ◌∷◌, codes, true, false}
+use Rattle.std.specs.Prelude.{◌≡◌, [], ◌∷◌, codes, true, false}
 use Rattle.kin_report.specs.RowWords.{follow, unfollow, stamp, deliver, report, raise, cut, cut_after, all_rules, no_rules, setting, prints, text}
 
 -- in an epoch the lesser node comes first, whatever came first

@@ -1,5 +1,5 @@
 -- Worked rows: events that do not apply.
-use Rattle.std.specs.Prelude.{◌≡◌, List, [], ◌∷◌, codes, true}
+use Rattle.std.specs.Prelude.{◌≡◌, [], ◌∷◌, codes, true}
 use Rattle.kin_report.specs.RowWords.{follow, stamp, deliver, report, raise, cut, commit, crash, restart, begin, mine, turn, no_rules, setting, prints, text}
 
 -- every kind of refusal but three

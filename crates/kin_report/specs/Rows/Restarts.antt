@@ -1,5 +1,5 @@
 -- Worked rows: nodes that crash and come back.
-use Rattle.std.specs.Prelude.{◌≡◌, List, [], ◌∷◌, codes, true}
+use Rattle.std.specs.Prelude.{◌≡◌, [], ◌∷◌, codes, true}
 use Rattle.kin_report.specs.RowWords.{follow, stamp, deliver, report, raise, cut, cut_after, crash, restart, all_rules, no_rules, setting, prints, text}
 
 -- a restart inside the chain of held pieces

@@ -1,5 +1,5 @@
 -- Worked rows: hops and closeness.
-use Rattle.std.specs.Prelude.{◌≡◌, List, [], ◌∷◌, codes, true, false}
+use Rattle.std.specs.Prelude.{◌≡◌, [], ◌∷◌, codes, true, false}
 use Rattle.kin_report.specs.RowWords.{user, follow, tweet, at, stamp, deliver, report, raise, cut, commit, begin, mine, turn, no_rules, setting, prints, text}
 
 -- an edge that makes walks shorter

@@ -1,5 +1,5 @@
 -- Worked rows: a whole small network.
-use Rattle.std.specs.Prelude.{◌≡◌, List, [], ◌∷◌, codes, false}
+use Rattle.std.specs.Prelude.{◌≡◌, [], ◌∷◌, codes, false}
 use Rattle.kin_report.specs.RowWords.{user, follow, unfollow, tweet, at, tagged, stamp, deliver, report, raise, cut, all_rules, setting, prints, text}
 
 -- a small network over three partitions, with every rule

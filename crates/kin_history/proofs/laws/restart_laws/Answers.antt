@@ -1,9 +1,9 @@
-use Rattle.kin_history.specs.Laws.{LineLaw, BaseLaw, CutBackLaw, LossLaw, BasesStayLaw}
+use Rattle.kin_history.specs.Laws.{WholeLineLaw, BaseLaw, CutBackLaw, LossLaw, BasesStayLaw}
 use Rattle.kin_history.proofs.Sound.{sound}
 use Rattle.kin_history.proofs.Lasts.{cut-back, loss, keeps-bases-later}
 use Rattle.kin_history.proofs.laws.restart_laws.Goals as goal
 
-lines : LineLaw
+lines : WholeLineLaw
 lines set h i some legal =
     let g = sound set h i some legal in
     record { run = g.run; within = g.within; sizes = λ s k. let place = g.places s k in (g.sizes s place.made place.ingest).0; places = g.places }

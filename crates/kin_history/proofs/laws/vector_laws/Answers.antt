@@ -1,4 +1,4 @@
-use Rattle.kin_history.specs.CutLaws.{VectorLaw, KeepLaw, LaterLaw, SealedLaw, NeverWithinLaw}
+use Rattle.kin_history.specs.CutLaws.{VectorLaw, KeepLaw, KeepLaterLaw, SealedLaw, NeverWithinLaw}
 use Rattle.kin_history.proofs.Sound.{sound}
 use Rattle.kin_history.proofs.Cuts.{sound-cuts, keeps, keeps-later, sealed, never-within}
 use Rattle.kin_history.proofs.laws.vector_laws.Goals as goal
@@ -9,7 +9,7 @@ rising set h i some legal lt = sound-cuts set h i some legal lt
 kept : KeepLaw
 kept set h e i some legal lt = keeps set h e i some legal lt
 
-kept_later : LaterLaw
+kept_later : KeepLaterLaw
 kept_later set h es i some legal lt = keeps-later set h es i some legal lt
 
 sealed_law : SealedLaw

@@ -1,4 +1,4 @@
-use Rattle.std.proofs.Common.{rules, ◌≡◌, ◌≤◌, ℕ, List, length, take, drop, ◌+◌, ◌-◌, arith, subst, true, ◌∙◌, IfSome, Option}
+use Rattle.std.proofs.Common.{rules, ◌≡◌, ◌≤◌, ℕ, List, length, take, drop, ◌+◌, ◌-◌, subst, true, ◌∙◌, IfSome, Option}
 use Rattle.std.specs.Result.{is_ok}
 use Rattle.kin_io.proofs.Loading.{loaded_few, loaded_more}
 use Rattle.kin_io.specs.Outside.{ReadsAt, ReadsFile}
@@ -21,5 +21,5 @@ loop-buf-preserved g c =
       few = loaded_few c.args.limit c.min.result c.in-Ok-read_at.count _ _ c.loop-buf.buf _ items read.0 most within;
       front = loaded_more (g.F.Shelf.content c.args.shelf.now name) c.loop-buf.bytes.items c.extend_from_slice.new.self.items buf c.read_at.new.buf (drop (c.min.result + 1) c.loop-buf.buf) c.in-Ok-read_at.count inv.front read.0 c.read_at.auto.buf file items;
       content = λ n. c.read_at.ensures.content n ∙ inv.content n;
-      counts = λ n. omega (arith, c.read_at.ensures.counts n, inv.counts n);
+      calm = λ n. c.in-Ok-read_at.ensures.calm n ∙ inv.calm n;
     }

@@ -7,7 +7,7 @@ invariant-loop-buf g l = record {
   few : length l.bytes.items ≤ l.limit + 1;
   front : IfSome (g.F.Shelf.content l.fn.shelf l.name) (λ file. (l.bytes.items ≡ take (length l.bytes.items) file) × (length l.bytes.items ≤ length file));
   content : (n : List ℕ) → g.F.Shelf.content l.shelf n ≡ g.F.Shelf.content l.fn.shelf n;
-  counts : (n : List ℕ) → g.F.Shelf.faults l.fn.shelf n ≤ g.F.Shelf.faults l.shelf n;
+  calm : (n : List ℕ) → g.F.Shelf.faults l.shelf n ≡ g.F.Shelf.faults l.fn.shelf n;
 }
 
 abbrev pub decreases-loop-buf : goal.decreases-loop-buf

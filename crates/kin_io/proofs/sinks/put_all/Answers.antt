@@ -1,4 +1,4 @@
-use Rattle.std.proofs.Common.{arith}
+use Rattle.std.proofs.Common.{◌∙◌}
 use Rattle.kin_io.proofs.Growth.{put_more, flushed_more}
 use Rattle.kin_io.proofs.sinks.put_all.Goals as goal
 
@@ -12,5 +12,5 @@ loop-at-preserved g c =
       within = more.0;
       grew = more.1;
       wet = flushed_more c.loop-at.at n _ _ _ inv.wet c.in_ok-at.ensures.unflushes;
-      later = omega (arith, c.in_ok-at.ensures.cause.later, inv.later);
+      calm = c.in_ok-at.ensures.cause.calm ∙ inv.calm;
     }

@@ -8,7 +8,7 @@ invariant-loop-at g l = record {
   within : l.at ≤ length l.bytes;
   grew : Grew (g.O.Sink.taken l.fn.sink) (g.O.Sink.taken l.sink) (take l.at l.bytes);
   wet : g.O.Sink.flushed l.sink ≡ flushed_after l.at (g.O.Sink.flushed l.fn.sink);
-  later : g.O.Sink.faults l.fn.sink ≤ g.O.Sink.faults l.sink;
+  calm : g.O.Sink.faults l.sink ≡ g.O.Sink.faults l.fn.sink;
 }
 
 abbrev pub decreases-loop-at : goal.decreases-loop-at

@@ -5,4 +5,4 @@ use Rattle.kin_report.proofs.rows.rows_on_rules.Goals as goal
 
 pub returns : goal.returns
 unfolding digits least_cost
-returns c = record { at_the_limits = refl; exposed = refl; ranked = refl }
+returns c = record { at_the_limits = refl; exposed = refl; ranked = refl; bad_among = refl; bad_alone = refl }

@@ -1,4 +1,4 @@
-use Rattle.kin_rules.proofs.Costs.{least-law}
+use Rattle.kin_rules.proofs.LeastCosts.{least-law, one-law}
 use Rattle.kin_rules.proofs.Kept.{rest-law}
 use Rattle.kin_rules.proofs.Support.{support-law}
 use Rattle.kin_rules.proofs.laws.cost_laws.Goals as goal
@@ -11,3 +11,6 @@ returns-clause-rest c = rest-law
 
 pub returns-clause-support : goal.returns-clause-support
 returns-clause-support c = support-law
+
+pub returns-clause-one : goal.returns-clause-one
+returns-clause-one c = one-law

@@ -1,5 +1,6 @@
 use Rattle.kin_rules.proofs.Counts.{followers-present}
 use Rattle.kin_rules.proofs.Ranks.{ranks-capped, followers-follow}
+use Rattle.kin_rules.proofs.RankRule.{ranks-are-layers}
 use Rattle.kin_rules.proofs.laws.rank_laws.Goals as goal
 
 pub returns-clause-capped : goal.returns-clause-capped
@@ -10,3 +11,6 @@ returns-clause-shared c = followers-follow
 
 pub returns-clause-followers : goal.returns-clause-followers
 returns-clause-followers c = followers-present
+
+pub returns-clause-layers : goal.returns-clause-layers
+returns-clause-layers c = ranks-are-layers

@@ -2,8 +2,10 @@ use Rattle.std.proofs.Common.{◌≡◌, ◌<◌, ◌-◌, ◌+◌, ◌∙◌, l
 use Rattle.std.specs.List.{range_with_len}
 use Rattle.std.proofs.lemmas.List.Elements.{filter_passes, All-weaker}
 use Rattle.std.proofs.lemmas.Bool.{ltb-true}
-use Rattle.kin_ids.specs.Fair.{rows}
-use Rattle.kin_ids.proofs.Rounds.{All-filter, first_within, enough-none, still-live}
+use Rattle.kin_ids.specs.Rounds.{rows}
+use Rattle.kin_ids.proofs.Rounds.{All-filter, first_within, still-live}
+use Rattle.kin_ids.proofs.RowOrder.{rows-law}
+use Rattle.kin_ids.proofs.Turns.{enough-none}
 use Rattle.kin_table.proofs.Turns.{took-row}
 use Rattle.kin_table.specs.Lists.{list_at}
 use Rattle.kin_table.proofs.rounds.fair.Goals as goal
@@ -15,7 +17,8 @@ loop-place-init c = record {
   len = ap length c.in_ok-ends.ensures.items;
   nodes = rw c.in_ok-live.ensures (first_within (length c.args.lists.now));
   live = λ q le. rw c.in_ok-live.ensures refl;
-  ends = λ i. let e : c.longest-place-end.result - 0 ≡ c.longest-place-end.result = omega arith in rw (c.in_ok-ends.ensures.items, e, c.longest-place-end.ensures, sym c.requires) refl;
+  ends = λ i. let e : c.longest-place-end.result - 0 ≡ c.longest-place-end.result = omega arith in
+      rw (c.in_ok-ends.ensures.items, e, c.longest-place-end.ensures, sym c.requires, rows-law (list_at c.args.lists.now) (length c.args.lists.now)) refl;
 }
 
 pub round-wanted-requires-clause-nodes : goal.round-wanted-requires-clause-nodes

@@ -1,6 +1,7 @@
 use Rattle.std.proofs.Common.{◌≡◌, ◌<◌, ◌≤◌, ◌-◌, ℕ, length, slice_index}
 use Rattle.std.specs.List.{All, range_with_len}
-use Rattle.kin_ids.specs.Fair.{row, rows, longest, enough, last_end, fair}
+use Rattle.kin_ids.specs.Fair.{enough, last_end, fair}
+use Rattle.kin_ids.specs.Rounds.{row, rows, longest}
 use Rattle.kin_table.specs.Lists.{list_at}
 use Rattle.kin_table.proofs.rounds.fair.Given as goal
 

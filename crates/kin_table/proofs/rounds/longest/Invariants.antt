@@ -1,6 +1,6 @@
 use Rattle.std.proofs.Common.{◌≡◌, ◌-◌, max, length}
 use Rattle.std.specs.List.{range_with_len}
-use Rattle.kin_ids.specs.Fair.{longest}
+use Rattle.kin_ids.specs.Rounds.{longest}
 use Rattle.kin_table.specs.Lists.{list_at}
 use Rattle.kin_table.proofs.rounds.longest.Given as goal
 

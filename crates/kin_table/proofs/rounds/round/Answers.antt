@@ -1,6 +1,6 @@
 use Rattle.std.proofs.Common.{◌++◌, drop}
-use Rattle.kin_ids.specs.Fair.{row}
-use Rattle.kin_ids.proofs.Rounds.{enough-none}
+use Rattle.kin_ids.specs.Rounds.{row}
+use Rattle.kin_ids.proofs.Turns.{enough-none}
 use Rattle.kin_table.specs.Lists.{list_at}
 use Rattle.kin_table.proofs.rounds.round.Goals as goal
 

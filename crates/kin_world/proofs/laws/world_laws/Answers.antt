@@ -1,4 +1,3 @@
-use Rattle.std.proofs.Common.{◌≡◌}
 use Rattle.kin_world.proofs.Facts.{agreed_is, inc_is}
 use Rattle.kin_world.proofs.Moments.{keeps-moments}
 use Rattle.kin_world.proofs.Ready.{ready-is}

@@ -1,4 +1,4 @@
-use Rattle.std.proofs.Common.{◌≡◌, ◌∙◌, ◌+◌, ◌++◌, ◌∷◌, [], List, sym, ap, subst, get_or, take, arith}
+use Rattle.std.proofs.Common.{◌≡◌, ◌∙◌, ◌+◌, ◌++◌, ◌∷◌, [], List, sym, ap, subst, get_or, take, arith, inl}
 use Rattle.std.proofs.lemmas.List.{take_more}
 use Rattle.kin_ids.specs.declared.ids.IngestId.{IngestId}
 use Rattle.kin_script.specs.declared.events.Event.{Event}
@@ -7,7 +7,7 @@ use Rattle.kin_script.specs.declared.outcomes.Outcome.{Outcome}
 use Rattle.kin_history.specs.Setting.{Setting, IsEvent}
 use Rattle.kin_world.specs.Runs.{Runs, RunsInPart}
 use Rattle.kin_world.proofs.Cutting.{has-room}
-use Rattle.kin_world.proofs.Running.{on_err, runs-push}
+use Rattle.kin_world.proofs.Running.{on_err, runs-push, runs-stop, runs-none}
 use Rattle.kin_world.proofs.runs.run.Goals as goal
 
 abbrev no_event : Event
@@ -43,5 +43,14 @@ returns-in_err-push-clause-err c =
     on_err _ (RunsInPart c.args.world.now c.args.events.now c.step.new.self) (
       k + 1,
       λ set h s. rw (take_more c.args.events.now k no_event c.loop-event-test.true)
-          (runs-push c.args.world.now c.loop-event.world c.step.new.self (take k c.args.events.now) c.loop-event.told.items e c.in_ok-step.field-0 c.loop-event.invariant.runs c.in_ok-step.ensures.keeps set h s).1,
+          (inl (runs-push c.args.world.now c.loop-event.world c.step.new.self (take k c.args.events.now) c.loop-event.told.items e c.in_ok-step.field-0 c.loop-event.invariant.runs c.in_ok-step.ensures.keeps set h s).1),
+    )
+
+pub returns-in_err-step-clause-err : goal.returns-in_err-step-clause-err
+returns-in_err-step-clause-err c =
+    let k = c.loop-event.event-index in
+    let e = get_or c.args.events.now k no_event in
+    on_err _ (RunsInPart c.args.world.now c.args.events.now c.step.new.self) (
+      k,
+      runs-stop c.args.world.now c.loop-event.world c.step.new.self (take k c.args.events.now) c.loop-event.told.items e c.loop-event.invariant.runs c.in_err-step.ensures.err,
     )

@@ -1,6 +1,6 @@
 use Rattle.std.proofs.Common.{◌<◌, ◌∙◌, subst, sym, ap, rules}
 use Rattle.kin_hub.specs.Hubs.{HubView, parts_in}
-use Rattle.kin_hub.specs.Commits.{HasSmallFeeds, Commits}
+use Rattle.kin_hub.specs.Commits.{MayCommit, Commits}
 use Rattle.kin_hub.specs.Goes.{HubKeeps}
 use Rattle.kin_hub.proofs.Goings.{some-keeps}
 use Rattle.kin_hub.proofs.Committing.{may-apply, may-drop, commits-of, commit-keeps}
@@ -10,7 +10,7 @@ pub apply-requires-clause-may : goal.apply-requires-clause-may
 apply-requires-clause-may c =
     let was : HubView = record { core = c.self.inside.core; versions = c.self.inside.versions } in
     may-apply was c.args.p.0 c.committed-last.result c.in_ok-store.store (subst (λ (h : HubView). c.args.p.0 < parts_in h) (sym c.self.view_is) c.requires.part) c.committed-last.ensures
-    (search rules) (subst HasSmallFeeds (sym c.self.view_is) c.requires.small) (c.in_ok-store.ensures ∙ c.store.ensures.store)
+    (search rules) c.self.invariant (subst (λ (h : HubView). MayCommit h c.args.p.0) (sym c.self.view_is) c.requires.said) (c.in_ok-store.ensures ∙ c.store.ensures.store)
     (ap (λ s. s.part) c.in_ok-store.ensures ∙ c.store.ensures.home.0) (ap (λ s. s.parts) c.in_ok-store.ensures ∙ c.store.ensures.home.1)
 
 pub forget-requires-clause-places : goal.forget-requires-clause-places

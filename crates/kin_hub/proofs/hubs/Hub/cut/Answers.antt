@@ -7,7 +7,7 @@ use Rattle.kin_table.specs.Cuts.{IsNextCut}
 use Rattle.kin_blocks.specs.Versions.{VersionsView}
 use Rattle.kin_hub.specs.Cores.{since_cut, with_cut}
 use Rattle.kin_hub.specs.Hubs.{HubView, missing_in}
-use Rattle.kin_hub.specs.Stands.{HasStands}
+use Rattle.kin_hub.specs.Stands.{HasStory}
 use Rattle.kin_hub.specs.Goes.{HubCuts}
 use Rattle.kin_hub.proofs.Goings.{last-within, last-sized, cut-result, cut-some}
 use Rattle.kin_hub.proofs.hubs.Hub.cut.Goals as goal
@@ -28,8 +28,8 @@ appended : (c : goal.After-cut) → IfOk c.cut.result (λ cut. c.cut.new.self �
 appended c = subst (λ (h : HubView). IfOk c.cut.result (λ cut. c.cut.new.self ≡ with_cut h.core cut.ends)) c.self.view_is c.cut.ensures.appended
 
 pub invariant_of-self : goal.invariant_of-self
-invariant_of-self c = subst (λ (v : VersionsView). HasStands (record { core = c.cut.new.self; versions = v })) (stays c) (cut-some c.args.self.now c.args.n c.cut.new.self c.cut.ensures.core c.cut.result (next c) (appended c)
-    (subst (λ (h : HubView). OnErr c.cut.result (c.cut.new.self ≡ h.core)) c.self.view_is c.cut.ensures.err) (subst HasStands c.self.view_is c.self.invariant))
+invariant_of-self c = subst (λ (v : VersionsView). HasStory (record { core = c.cut.new.self; versions = v })) (stays c) (cut-some c.args.self.now c.args.n c.cut.new.self c.cut.ensures.core c.cut.result (next c) (appended c)
+    (subst (λ (h : HubView). OnErr c.cut.result (c.cut.new.self ≡ h.core)) c.self.view_is c.cut.ensures.err) (subst HasStory c.self.view_is c.self.invariant))
 
 pub returns-clause-stands : goal.returns-clause-stands
 returns-clause-stands c = subst (λ (v : VersionsView). OnOk c.cut.result (HubCuts c.args.self.now c.args.n (record { core = c.cut.new.self; versions = v }))) (stays c)

@@ -2,7 +2,7 @@ use Rattle.std.proofs.Common.{◌≡◌, ◌<◌, subst, sym, ap}
 use Rattle.kin_blocks.specs.Versions.{VersionsView}
 use Rattle.kin_hub.specs.Cores.{with_raise}
 use Rattle.kin_hub.specs.Hubs.{HubView, nodes_in}
-use Rattle.kin_hub.specs.Stands.{HasStands}
+use Rattle.kin_hub.specs.Stands.{HasStory}
 use Rattle.kin_hub.specs.Goes.{HubRaises}
 use Rattle.kin_hub.proofs.Goings.{raisable, raise-raises, some-raises}
 use Rattle.kin_hub.proofs.hubs.Hub.raise.Goals as goal
@@ -22,8 +22,8 @@ raises : (c : goal.After-raise) → HubRaises c.args.self.now c.args.i.0 (record
 raises c = raise-raises c.args.self.now c.args.i.0 c.raise.new.self c.requires c.raise.ensures.core (subst (λ (h : HubView). c.raise.new.self ≡ with_raise h.core c.args.i.0) c.self.view_is c.raise.ensures.raised)
 
 pub invariant_of-self : goal.invariant_of-self
-invariant_of-self c = subst (λ (v : VersionsView). HasStands (record { core = c.raise.new.self; versions = v })) (stays c)
-    (some-raises c.args.self.now (record c.args.self.now { core = c.raise.new.self }) c.args.i.0 (raises c) (subst HasStands c.self.view_is c.self.invariant))
+invariant_of-self c = subst (λ (v : VersionsView). HasStory (record { core = c.raise.new.self; versions = v })) (stays c)
+    (some-raises c.args.self.now (record c.args.self.now { core = c.raise.new.self }) c.args.i.0 (raises c) (subst HasStory c.self.view_is c.self.invariant))
 
 pub returns-clause-stands : goal.returns-clause-stands
 returns-clause-stands c = subst (λ (v : VersionsView). HubRaises c.args.self.now c.args.i.0 (record { core = c.raise.new.self; versions = v })) (stays c) (raises c)

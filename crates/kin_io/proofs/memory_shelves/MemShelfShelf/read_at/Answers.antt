@@ -35,8 +35,8 @@ returns-clause-counts c = λ n.
     let x = c.in-Some.file.now in
     omega (arith, ap (faults_in c.args.self.now.missing) (same_after c.args.name.now c.args.self.now.files (c.get_mut.follows.lender x) x ((c.get_mut.follows.holds x).3 (search rules)) n c.in-Some.ensures.value))
 
-pub returns-clause-no_fault : goal.returns-clause-no_fault
-returns-clause-no_fault c = λ n.
+pub returns-clause-calm : goal.returns-clause-calm
+returns-clause-calm c = λ n.
     let x = c.in-Some.file.now in
     ap (faults_in c.args.self.now.missing) (same_after c.args.name.now c.args.self.now.files (c.get_mut.follows.lender x) x ((c.get_mut.follows.holds x).3 (search rules)) n c.in-Some.ensures.value)
 

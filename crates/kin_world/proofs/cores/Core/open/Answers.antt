@@ -9,7 +9,7 @@ use Rattle.kin_world.proofs.cores.Core.open.Goals as goal
 
 pub returns : goal.returns
 returns c = record {
-  stands = λ landmarks.
+  stands =
       let feeds = c.args.feeds.items in
       let hub = c.in_ok-hub.hub in
       let count : length feeds ≡ c.len-nodes.result = ap length (sym c.deref.ensures.value) ∙ (c.deref.ensures.len ∙ sym c.len-nodes.ensures) in
@@ -17,5 +17,6 @@ returns c = record {
       let small = subst (λ (all : List (List Record)). All (λ (feed : List Record). All IsSmall feed) all) c.deref.ensures.value c.in_ok-ingests.ensures.small in
       let limits : AreWithinLimits feeds = record { records = c.requires.few_records; small = small } in
       let value = subst (λ (n : ℕ). hub ≡ first_hub n c.args.parts) (sym count) c.in_ok-hub.ensures.value in
-      rw c.new-2.ensures (first-stands feeds c.args.parts landmarks c.in_ok-ingests.ingests.items hub limits first value (c.in_ok-hub.ensures.stands feeds count));
+      rw c.new-2.ensures (first-stands feeds c.args.parts c.args.landmarks.now c.in_ok-ingests.ingests.items hub c.in_ok-new.field-0 limits first value (c.in_ok-hub.ensures.stands feeds count)
+      c.in_ok-new.ensures.landmarks c.in_ok-new.ensures.quiet c.in_ok-new.ensures.stands);
 }

@@ -1,4 +1,4 @@
-use Rattle.std.proofs.Common.{◌≡◌, ◌≢◌, ◌∙◌, ℕ, ◌+◌, ◌<◌, min, Bool, true, false, sym, ap, subst, arith, get_or, length, None}
+use Rattle.std.proofs.Common.{◌≡◌, ◌≢◌, ◌∙◌, ℕ, ◌+◌, ◌<◌, min, true, sym, ap, subst, arith, get_or, length, None}
 use Rattle.std.proofs.lemmas.Bool.{true_from_ne_false}
 use Rattle.std.proofs.lemmas.List.{get_or_read}
 use Rattle.kin_ids.specs.declared.stamps.Stamp.{Stamp}
@@ -26,9 +26,9 @@ push-requires c =
     let more : node.next ≢ node.len = λ e. let refused = c.in-Ok.ensures.exhausted.1 (up_is, e) in absurd cc in
     let next_is : node.next ≡ (node_at now c.args.ingest.0).next = ap (λ (k : Ingest). k.next) node_is in
     let len_is : node.len ≡ (node_at now c.args.ingest.0).len = ap (λ (k : Ingest). k.len) node_is in
-    let within_feed = next-within now c.requires.story c.args.ingest.0 c.requires.node in
+    let within_feed = next-within now c.requires.history c.args.ingest.0 c.requires.node in
     let some = c.requires.some in
     let from : c.in-Ok.stamp.from ≡ (node_at now c.args.ingest.0).next = ap (λ (k : Stamp). k.from) stamp_is in
     let to : c.in-Ok.stamp.to ≡ min ((node_at now c.args.ingest.0).next + c.args.n) (node_at now c.args.ingest.0).len = ap (λ (k : Stamp). k.to) stamp_is in
     subst (λ (w : WorldView). find_sent w.sent c.in-Ok.stamp.ingest.0 c.in-Ok.stamp.inc.0 c.in-Ok.stamp.to ≡ None) (sym c.self.view_is)
-    (unsent now c.requires.story c.args.ingest.0 c.args.n c.in-Ok.stamp c.requires.node stamp_is (omega arith))
+    (unsent now c.requires.history c.args.ingest.0 c.args.n c.in-Ok.stamp c.requires.node stamp_is (omega arith))

@@ -14,14 +14,17 @@ use Rattle.kin_world.proofs.Reports.{report-keeps}
 use Rattle.kin_world.proofs.Raises.{raise-keeps}
 use Rattle.kin_world.proofs.Crashes.{crash-keeps}
 use Rattle.kin_world.proofs.Restarting.{restart-keeps, may-restart}
-use Rattle.kin_world.proofs.Committing.{commit-keeps, commit-kept, small-feeds}
+use Rattle.kin_world.proofs.Committing.{commit-keeps, commit-kept, may-commit-of}
 use Rattle.kin_world.proofs.Cutting.{cut-keeps, cut-kept}
+use Rattle.kin_world.proofs.Beginning.{begin-keeps, begin-kept, begin-calls}
+use Rattle.kin_world.proofs.Turning.{turn-keeps, turn-kept, turn-calls}
+use Rattle.kin_world.proofs.Mines.{mine-keeps, mine-kept}
 use Rattle.kin_world.proofs.cores.Core.step.Goals as goal
 
 pub restart-requires-clause-may : goal.restart-requires-clause-may
 restart-requires-clause-may c =
     let legal = rw c.in-Restart.is at c.requires.event in
-    let story = c.requires.story in
+    let story = c.requires.history in
     may-restart story.0 c.args.self.now story.1 story.2 c.in-Restart.ingest (node_in story.0 c.args.self.now story.1 story.2 c.in-Restart.ingest.0 legal)
 
 pub returns-in-Stamp-clause-keeps : goal.returns-in-Stamp-clause-keeps
@@ -99,3 +102,32 @@ returns-in-Commit-clause-keeps c =
 pub returns-in-Commit-clause-refused : goal.returns-in-Commit-clause-refused
 returns-in-Commit-clause-refused c =
     if_ok c.commit.result _ _ (λ o made. commit-kept c.args.self.now c.in-Commit.part.0 o c.commit.new.self made) c.commit.ensures.commits
+
+pub returns-in-Begin-clause-keeps : goal.returns-in-Begin-clause-keeps
+returns-in-Begin-clause-keeps c = rw c.in-Begin.is (if_ok c.begin.result _ _ (λ o made. begin-keeps c.args.self.now o c.begin.new.self made) c.begin.ensures.begins)
+
+pub returns-in-Begin-clause-refused : goal.returns-in-Begin-clause-refused
+returns-in-Begin-clause-refused c = if_ok c.begin.result _ _ (λ o made. begin-kept c.args.self.now o c.begin.new.self made) c.begin.ensures.begins
+
+pub returns-in-Begin-clause-calls : goal.returns-in-Begin-clause-calls
+returns-in-Begin-clause-calls c = rw c.in-Begin.is (if_ok c.begin.result _ _ (λ o made. begin-calls c.args.self.now o c.begin.new.self made) c.begin.ensures.begins)
+
+pub returns-in-Turn-clause-keeps : goal.returns-in-Turn-clause-keeps
+returns-in-Turn-clause-keeps c = rw c.in-Turn.is (if_ok c.turn.result _ _ (λ o made. turn-keeps c.args.self.now c.in-Turn.user o c.turn.new.self made) c.turn.ensures.turns)
+
+pub returns-in-Turn-clause-refused : goal.returns-in-Turn-clause-refused
+returns-in-Turn-clause-refused c = if_ok c.turn.result _ _ (λ o made. turn-kept c.args.self.now c.in-Turn.user o c.turn.new.self made) c.turn.ensures.turns
+
+pub returns-in-Turn-clause-calls : goal.returns-in-Turn-clause-calls
+returns-in-Turn-clause-calls c = rw c.in-Turn.is (if_ok c.turn.result _ _ (λ o made. turn-calls c.args.self.now c.in-Turn.user o c.turn.new.self made) c.turn.ensures.turns)
+
+pub returns-in-Mine-clause-keeps : goal.returns-in-Mine-clause-keeps
+returns-in-Mine-clause-keeps c = rw c.in-Mine.is (if_ok c.mine.result _ _ (λ o made. mine-keeps c.args.self.now o c.mine.new.self made) c.mine.ensures.mines)
+
+pub returns-in-Mine-clause-refused : goal.returns-in-Mine-clause-refused
+returns-in-Mine-clause-refused c = if_ok c.mine.result _ _ (λ o made. mine-kept c.args.self.now o c.mine.new.self made) c.mine.ensures.mines
+
+pub commit-requires-clause-said : goal.commit-requires-clause-said
+commit-requires-clause-said c =
+    let legal = rw c.in-Commit.is at c.requires.event in
+    may-commit-of c.args.self.now c.requires.history c.in-Commit.part.0 legal

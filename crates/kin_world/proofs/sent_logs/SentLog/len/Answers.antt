@@ -1,4 +1,4 @@
-use Rattle.std.proofs.Common.{◌≡◌, ◌∙◌, sym, ap, length}
+use Rattle.std.proofs.Common.{◌∙◌, sym, ap, length}
 use Rattle.std.proofs.lemmas.List.{length-map}
 use Rattle.kin_world.specs.declared.sent_logs.Sent.{Sent}
 use Rattle.kin_world.specs.declared.sent_logs.SentKey.{SentKey}

@@ -1,8 +1,7 @@
-use Rattle.std.proofs.Common.{◌≡◌, ◌∙◌, sym, ap, subst, List, ◌++◌, ◌∷◌, [], None}
+use Rattle.std.proofs.Common.{◌≡◌, ◌∙◌, sym, ap, subst, List, ◌++◌, ◌∷◌, []}
 use Rattle.indexmap.proofs.CallerLemmas.{insert_entry-new}
 use Rattle.kin_world.specs.contracts.sent_logs.SentKeyPartialEq.TheImpl.{eq-value}
 use Rattle.kin_world.specs.declared.sent_logs.Sent.{Sent}
-use Rattle.kin_world.specs.declared.sent_logs.SentKey.{SentKey}
 use Rattle.kin_world.specs.SentStamps.{find_sent}
 use Rattle.kin_world.specs.SentEntries.{IsKeyed, values_of, key_of}
 use Rattle.kin_world.proofs.SentLooks.{found-is, keyed-push, values_of-push}

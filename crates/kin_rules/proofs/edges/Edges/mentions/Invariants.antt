@@ -1,0 +1,8 @@
+use Rattle.std.proofs.Common.{◌≡◌, map, take}
+use Rattle.kin_ids.specs.declared.ids.User.{User}
+use Rattle.kin_rules.specs.Edges.{places_of}
+use Rattle.kin_rules.proofs.edges.Edges.mentions.Given as goal
+
+-- the rows of the first users
+abbrev pub invariant-loop-user : goal.invariant-loop-user
+invariant-loop-user g l = l.edges ≡ map (λ (u : User). places_of l.index ((g.V.View.seen l.view).mentions u)) (take l.user-index l.index)

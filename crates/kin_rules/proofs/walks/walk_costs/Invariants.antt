@@ -1,0 +1,4 @@
+use Rattle.kin_rules.proofs.walks.walk_costs.Given as goal
+
+abbrev pub ghosts-walk_by : goal.ghosts-walk_by
+ghosts-walk_by g a = record { name = a.blank.name; parts = a.blank.parts }

@@ -1,0 +1,18 @@
+-- How many entries of a tag have which number.
+use Rattle.std.specs.Prelude.{◌==◌, ℕ, nat_lt, List, count_by, filter, length, map, slice_index}
+use Rattle.std.specs.List.{range_with_len}
+use Rattle.kin_ids.specs.Users.{same_tag}
+use Rattle.kin_rules.specs.declared.exposure_rules.UseK.{UseK}
+use Rattle.kin_rules.specs.declared.numbers.KCount.{KCount}
+
+-- the numbers of the entries of a tag
+abbrev pub ks_of : List UseK → List ℕ → List ℕ
+ks_of entries t = map (λ e. e.k) (filter (λ e. same_tag t e.tag) entries)
+
+-- which numbers below n these are, and how often
+abbrev pub counted : List ℕ → ℕ → List KCount
+counted ks n = filter (λ c. nat_lt 0 c.users) (map (λ k. record { k = k; users = count_by (λ x. x == k) ks }) (range_with_len 0 n))
+
+-- the counts that aren't 0, each with its place
+abbrev pub listed : List ℕ → List KCount
+listed counts = filter (λ c. nat_lt 0 c.users) (map (λ k. record { k = k; users = slice_index counts k }) (range_with_len 0 (length counts)))

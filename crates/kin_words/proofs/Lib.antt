@@ -1,0 +1,7 @@
+mod Walks
+mod Readings
+mod Spellings
+mod Equals
+mod Apps
+mod Asked
+mod Parts
