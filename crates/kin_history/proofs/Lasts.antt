@@ -10,6 +10,7 @@ use Rattle.kin_script.specs.declared.events.Event.{Event}
 use Rattle.kin_script.specs.declared.events.Event.TheVariants as event
 use Rattle.kin_script.specs.declared.outcomes.Outcome.TheVariants as outcome
 use Rattle.kin_script.specs.declared.outcomes.Refusal.TheVariants as refusal
+use Rattle.kin_ids.proofs.Joins.{filter-upto}
 use Rattle.kin_history.specs.Setting.{Setting, feed_len, IsHistory, after}
 use Rattle.kin_history.specs.Lines.{comes_back, up, inc, line, next, least_ack, agreed}
 use Rattle.kin_history.specs.Outcomes.{outcome_of}
@@ -19,15 +20,8 @@ use Rattle.kin_history.proofs.Sound.{IsSound, old_base, new_base, sound}
 use Rattle.kin_history.proofs.Seen.{agreed-least}
 
 -- on a line the front up to a position is what ends at or before it
-filter-none : (at b : ℕ) (ss : List Stamp) → IsLine at ss → b ≤ at → filter (λ (s : Stamp). leb s.to b) ss ≡ []
-filter-none at b [] l le = refl
-filter-none at b (x ∷ ss) l le = let some : at < x.to = l.1 in cond-false (leb x.to b) _ _ (lt-leb _ _ (omega arith)) ∙ filter-none x.to b ss l.2 (omega arith)
-
 pub upto-filter : (at b : ℕ) (ss : List Stamp) → IsLine at ss → upto b ss ≡ filter (λ (s : Stamp). leb s.to b) ss
-upto-filter at b [] l = refl
-upto-filter at b (x ∷ ss) l = cond_both (leb x.to b) (x ∷ upto b ss) [] (λ ys. ys ≡ filter (λ (s : Stamp). leb s.to b) (x ∷ ss))
-    (λ t. ap (λ ys. x ∷ ys) (upto-filter x.to b ss l.2) ∙ sym (cond-true (leb x.to b) _ _ t))
-    (λ n. let out = leb-false _ _ n in sym (cond-false (leb x.to b) _ _ n ∙ filter-none x.to b ss l.2 (omega arith)))
+upto-filter at b ss l = sym (filter-upto at b ss l)
 
 -- a stamp of a line that ends at or before a position is of the front up to it
 pub has-upto : (at b : ℕ) (ss : List Stamp) (s : Stamp) → IsLine at ss → has ss s ≡ true → s.to ≤ b → has (upto b ss) s ≡ true

@@ -19,7 +19,7 @@ or_false : (x : Bool) → x ≡ (x || false)
 or_false true = refl
 or_false false = refl
 
-or_or : (a b c : Bool) → ((a || b) || c) ≡ (a || (b || c))
+pub or_or : (a b c : Bool) → ((a || b) || c) ≡ (a || (b || c))
 or_or true b c = refl
 or_or false b c = refl
 

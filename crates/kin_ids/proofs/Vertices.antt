@@ -18,6 +18,7 @@ use Rattle.kin_ids.specs.Follows.{IsOnce}
 use Rattle.kin_ids.specs.Sizes.{IsSmall}
 use Rattle.kin_ids.specs.Vertices.{VertexLaw, TagLaw, FewVerticesLaw}
 use Rattle.kin_ids.proofs.Same.{same_user-true, same_user-refl, same_user-sym, same_tag-true, same_tag-sym, list_any-alike}
+use Rattle.kin_ids.proofs.Heard.{or_or}
 use Rattle.kin_ids.proofs.Once.{IsOnce-push}
 
 or-last : (s a b : Bool) → ((s || (a || false)) || b) ≡ (s || (a || b))
@@ -67,10 +68,6 @@ module _ (x : User) (g : Graph) where
 
   abbrev in_uses : Bool
   in_uses = list_any (λ (y : TagUse). same_user x y.user) g.uses
-
-or_or : (a b c : Bool) → ((a || b) || c) ≡ (a || (b || c))
-or_or true b c = refl
-or_or false b c = refl
 
 -- the list of vertices has exactly those
 pub has-vertices : (g : Graph) (u : User) → has_user (vertices g) u ≡ is_vertex_of g u

@@ -12,4 +12,3 @@ exit_of status.Read = 4
 exit_of status.Write = 5
 exit_of (status.Limit _) = 6
 exit_of status.Memory = 7
-exit_of status.NotBuilt = 11

@@ -33,8 +33,6 @@ pub enum Status {
     Limit { which: Which },
     /// There was not enough memory.
     Memory,
-    /// What the words and the files ask for isn't built.
-    NotBuilt,
 }
 
 impl Status {
@@ -50,7 +48,6 @@ impl Status {
             Status::Write => 5,
             Status::Limit { .. } => 6,
             Status::Memory => 7,
-            Status::NotBuilt => 11,
         }
     }
 }

@@ -4,31 +4,32 @@
 use kin_ids::{Status, Which};
 use kin_io::{FileShelf, StdSink};
 use kin_replay::replay;
+use kin_words::{Command, pick};
 use std::alloc::Global;
 use std::process::ExitCode;
 use std::rt::{Env, Files};
 use std::{env, io};
 
-// The words of the command line after the program's name. One that isn't UTF-8 asks for what isn't built.
+// The words of the command line after the program's name. They are UTF-8, or no words of a command.
 fn words_of<R: Env + Alloc<A = Global>>(rt: &R) -> Result<Vec<String>, Status> {
     match env::args(rt) {
         Ok(args) => args.skip(1).collect(rt.alloc()).map_err(|_| Status::Memory),
-        Err(error) if error.kind() == io::ErrorKind::InvalidData => Err(Status::NotBuilt),
+        Err(error) if error.kind() == io::ErrorKind::InvalidData => Err(Status::Usage),
         Err(_) => Err(Status::Memory),
     }
 }
 
 // Runs the command that the first word picks.
 fn run<R: Files + Print + Alloc<A = Global>>(rt: &R, words: &[String]) -> Status {
-    match words {
-        [first, rest @ ..] if first.as_str() == "replay" => replay(
+    match (pick(words), words) {
+        (Some(Command::Replay), [_, rest @ ..]) => replay(
             rt.alloc(),
             rest,
             &mut FileShelf::new(rt),
             &mut StdSink::new(rt),
         )
         .status,
-        _ => Status::NotBuilt,
+        _ => Status::Usage,
     }
 }
 
@@ -52,7 +53,6 @@ fn complain<R: Eprint>(rt: &R, status: Status) -> io::Result<()> {
         Status::Write => eprintln!(rt; "kineo: cannot write"),
         Status::Limit { which } => eprintln!(rt; "kineo: limit {}", name_of(which)),
         Status::Memory => eprintln!(rt; "kineo: no memory"),
-        Status::NotBuilt => eprintln!(rt; "kineo: not built"),
     }
 }
 

@@ -1,6 +1,10 @@
-pub mod WorldParts
-pub mod PartCounts
-pub mod FirstStory
-pub mod FirstReport
-pub mod FirstWorld
-pub mod FeedRows
+mod Loads
+mod Languages
+mod Refused
+mod Ranges
+mod Counting
+mod Cuts
+mod Mined
+mod Played
+mod Ended
+mod OneJob

@@ -1,8 +1,7 @@
-pub mod FirstRun
-pub mod FirstWords
-pub mod FirstForms
-pub mod FirstSchedule
-pub mod FirstEnds
-pub mod StoreCounts
+pub mod Jobs
+pub mod Plays
+pub mod Files
 pub mod Refusals
-pub mod FeedRows
+pub mod Loaded
+pub mod Ends
+pub mod Counts

@@ -1,77 +1,45 @@
-//! The numbers of followers that the stores give.
+//! How many records an epoch adds, and how many of them are Bad.
 
-ghost use Rattle.std.specs.Prelude.{◌≡◌, ◌<◌, ◌++◌, IfOk, OnOk};
-ghost use Rattle.kin_ids.specs.Graph.{Graph};
-ghost use Rattle.kin_rules.specs.Top.{numbered_users};
-ghost use Rattle.kin_replay.specs.StoreCounts.{seen_count, AppendsCounts, AreParts, AreCounts};
+ghost use Rattle.std.specs.Prelude.{◌≡◌, ◌<◌, ◌≤◌, ℕ, List, length, count_by, sum_by, option_map};
+ghost use Rattle.kin_ids.specs.declared.ops.Record.{Record};
+ghost use Rattle.kin_ids.specs.Operations.{is_bad};
+ghost use Rattle.kin_ids.specs.Order.{of_epoch};
+ghost use Rattle.kin_replay.specs.Counts.{AreWithin, position_in};
 
-use kin_graph::{PartGraph, Steps, View};
-use kin_ids::{Memory, User};
-use kin_rules::UserNumber;
-use std::alloc::Global;
-use std::marker::Brand;
-use std::sync::ledger::{Blank, Ledger};
+use kin_feed::Feed;
+use kin_table::Cut;
 
-fn in_count<V: View, L: Ledger>(view: &V, u: User, steps: &mut Steps<L>) -> u64
-    ensures { result ≡ seen_count (V.seen view.now) u }
-{
-    view.inn(u, steps)
-        .iter()
-        .filter(|half| half.present)
-        .count() as u64
+/// The records of an epoch, and those of them that are Bad.
+#[derive(Clone, Copy, Debug, PartialEq, Eq)]
+pub struct Counts {
+    pub records: u64,
+    pub bad: u64,
 }
 
-// Appends each of these users with its number.
-fn push_numbers<V: View, L: Ledger>(
-    view: &V,
-    users: &[User],
-    counts: &mut Vec<UserNumber>,
-    steps: &mut Steps<L>,
-) -> Result<(), Memory>
-    ensures { OnOk result (counts.new.items ≡ counts.old.items ++ numbered_users (seen_count (V.seen view.now)) users.now) }
+// Where a cut ends a node, and the start where there is no cut.
+fn position(cut: Option<&Cut>, node: usize) -> u64
+    ensures { result ≡ position_in (option_map (λ c. c.now) cut.entry) node }
 {
-    for user in users {
-        let number = in_count(view, *user, steps);
-        counts.push(UserNumber {
-            user: *user,
-            number,
-        })?;
+    let Some(cut) = cut else { return 0 };
+    match cut.ends.as_slice().get(node) {
+        Some(end) => end.to,
+        None => 0,
     }
-    Ok(())
 }
 
-// Appends the numbers of the vertices of a view.
-fn push_counts<V: View, L: Ledger>(
-    view: &V,
-    counts: &mut Vec<UserNumber>,
-    steps: &mut Steps<L>,
-) -> Result<(), Memory>
-    ensures { OnOk result (AppendsCounts (V.seen view.now) counts.old.items counts.new.items) }
+/// The counts of the epoch from one cut, or the start, to the next. It costs O(log n) in the Bad records of each feed.
+pub fn counts_of(feeds: &[Feed], was: Option<&Cut>, now: &Cut) -> Counts
+    requires within { AreWithin feeds.now (position_in (option_map (λ c. c.now) was)) (position_in (Some now.now)) }
+    requires few { sum_by (λ (feed : List Record). length feed) feeds.now ≤ 2097152 }
+    ensures records { (e : ℕ) → result.records ≡ length (of_epoch feeds.now e (position_in (option_map (λ c. c.now) was.entry)) (position_in (Some now.now)) (length feeds.now)) }
+    ensures bad { (e : ℕ) → result.bad ≡ count_by (λ x. is_bad x.content) (of_epoch feeds.now e (position_in (option_map (λ c. c.now) was.entry)) (position_in (Some now.now)) (length feeds.now)) }
 {
-    let users = view.users()?;
-    push_numbers(view, users.as_slice(), counts, steps)
-}
-
-fn counts_by<L: Ledger>(
-    alloc: Global,
-    stores: &[PartGraph],
-    blank: Blank,
-) -> Result<Vec<UserNumber>, Memory>
-    requires name { blank.name ≡ L.name }
-    requires parts { (blank.parts ≡ L.parts) × (0 < L.parts) }
-    ensures { IfOk result (λ counts. (g : Graph) → AreParts g stores.now → AreCounts g counts.items) }
-{
-    let mut steps = Steps::<L>::new(blank);
-    let mut counts = Vec::new(alloc);
-    for store in stores {
-        push_counts(store, &mut counts, &mut steps)?;
+    let mut counts = Counts { records: 0, bad: 0 };
+    for node in 0..feeds.len() {
+        let from = position(was, node);
+        let to = position(Some(now), node);
+        counts.records += to - from;
+        counts.bad += feeds[node].bad_between(from, to);
     }
-    Ok(counts)
-}
-
-/// Each vertex of the stores together, with its number of followers. Its cost is linear in the halves.
-pub(crate) fn counts_of(alloc: Global, stores: &[PartGraph]) -> Result<Vec<UserNumber>, Memory>
-    ensures { IfOk result (λ counts. (g : Graph) → AreParts g stores.now → AreCounts g counts.items) }
-{
-    counts_by::<Brand>(alloc, stores, Blank::new(1))
+    counts
 }

@@ -1,81 +1,73 @@
-//! The feed and the schedule that the words name.
+//! The job that the words and their files ask for.
 
-ghost use Rattle.std.specs.Prelude.{◌≡◌, ◌<◌, ◌≤◌, ℕ, List, length, IfOk, OnOk, IfSome, IsErrOf};
-ghost use Rattle.kin_io.specs.Outside.{Rose};
-ghost use Rattle.kin_feed.specs.Records.{records_of};
-ghost use Rattle.kin_replay.specs.FirstForms.{shown};
-ghost use Rattle.kin_replay.specs.FirstSchedule.{IsSchedule};
-ghost use Rattle.kin_replay.specs.FirstEnds.{IsTooLarge, IsOutside, IsNotBuilt, IsUnread, IsJob};
+ghost use Rattle.std.specs.Prelude.{◌≡◌, ◌<◌, ◌≤◌, ℕ, List, length, sum_by, IfOk, IfErr, OnOk, IsErrOf};
+ghost use Rattle.kin_ids.specs.declared.ops.Record.{Record};
+ghost use Rattle.kin_replay.specs.Jobs.{IsReady};
+ghost use Rattle.kin_replay.specs.Files.{Files, FeedsFit, FilesFit, IsJob, SomeRose, Told, feeds_in, names_of};
+ghost use Rattle.kin_replay.specs.Refusals.{IsOfFeeds, IsOfFiles};
+ghost use Rattle.kin_replay.specs.Loaded.{AreInRange, job_of};
 
+use crate::files::{load_feeds, load_lines, read_feeds};
 use crate::refusals::Refusal;
-use crate::schedules::size_of;
-use crate::words::Form;
-use kin_feed::{Feed, read_feed};
-use kin_io::{Shelf, load};
+use kin_feed::Feed;
+use kin_ids::{Name, OptionWords, ReplayWords};
+use kin_io::Shelf;
+use kin_script::Line;
 use std::alloc::Global;
 
-/// The records of a feed, and how many of them the schedule stamps.
+/// The records of the feeds, the events of the schedule, and what the words choose.
 #[derive(Drop)]
 pub(crate) struct Job {
-    pub(crate) feed: Feed,
-    pub(crate) size: u64,
+    pub(crate) feeds: Vec<Feed>,
+    pub(crate) parts: u16,
+    pub(crate) options: OptionWords,
+    pub(crate) trace: bool,
+    pub(crate) lines: Vec<Line>,
 }
 
-// The most bytes of a file.
-const BYTES: u64 = 33554432;
-
-// The most records of a feed.
-const RECORDS: u64 = 2097152;
-
-fn load_feed<F: Shelf>(alloc: Global, shelf: &mut F, name: &str) -> Result<Feed, Refusal>
-    ensures ok { IfOk result (λ feed. IfSome (F.content shelf.old name.now) (λ a. feed ≡ records_of a)) }
-    ensures fits { OnOk result (IfSome (F.content shelf.old name.now) (λ a. IsTooLarge a → ⊥)) }
-    ensures read { IsErrOf result Refusal.Read → Rose (F.faults shelf.old name.now) (F.faults shelf.new name.now) }
-    ensures not_built { IsErrOf result Refusal.NotBuilt → IfSome (F.content shelf.old name.now) IsTooLarge }
-    ensures content { (n : List ℕ) → F.content shelf.new n ≡ F.content shelf.old n }
-    ensures counts { (n : List ℕ) → F.faults shelf.old n ≤ F.faults shelf.new n }
-{
-    let bytes = load(alloc, shelf, name, BYTES)?;
-    Ok(read_feed(alloc, bytes.as_slice(), RECORDS)?)
-}
-
-// How many records of a feed the schedule of this name stamps.
-fn load_size<F: Shelf>(
+// The records of the feeds of these names.
+fn load_records<F: Shelf>(
     alloc: Global,
     shelf: &mut F,
-    name: &str,
-    parts: u16,
-    len: u64,
-) -> Result<u64, Refusal>
-    ensures ok { IfOk result (λ n. IfSome (F.content shelf.old name.now) (λ s. IsSchedule parts len s n)) }
-    ensures fits { OnOk result (IfSome (F.content shelf.old name.now) (λ s. length s ≤ 33554432)) }
-    ensures some { IfOk result (λ n. 0 < n) }
-    ensures few { IfOk result (λ n. n ≤ 16) }
-    ensures inside { IfOk result (λ n. n ≤ len) }
-    ensures read { IsErrOf result Refusal.Read → Rose (F.faults shelf.old name.now) (F.faults shelf.new name.now) }
-    ensures not_built { IsErrOf result Refusal.NotBuilt → IfSome (F.content shelf.old name.now) (IsOutside parts len) }
+    names: &[Name],
+) -> Result<Vec<Feed>, Refusal>
+    ensures feeds { IfOk result (λ feeds. (files : Files) → Told (F.content shelf.old) names.now files → feeds.items ≡ feeds_in files names.now) }
+    ensures fit { OnOk result ((files : Files) → Told (F.content shelf.old) names.now files → FeedsFit names.now files) }
+    ensures count { IfOk result (λ feeds. length feeds.items ≡ length names.now) }
+    ensures within { IfOk result (λ feeds. sum_by (λ (feed : List Record). length feed) feeds.items ≤ 2097152) }
+    ensures read { IsErrOf result Refusal.Read → SomeRose (F.faults shelf.old) (F.faults shelf.new) names.now }
+    ensures err { IfErr result (λ refusal. (files : Files) → Told (F.content shelf.old) names.now files → IsOfFeeds names.now files refusal) }
     ensures content { (n : List ℕ) → F.content shelf.new n ≡ F.content shelf.old n }
     ensures counts { (n : List ℕ) → F.faults shelf.old n ≤ F.faults shelf.new n }
+    ensures calm { (IsErrOf result Refusal.Read → ⊥) → (n : List ℕ) → F.faults shelf.new n ≡ F.faults shelf.old n }
 {
-    let bytes = load(alloc, shelf, name, BYTES)?;
-    match size_of(alloc, bytes.as_slice(), parts, len)? {
-        Some(size) => Ok(size),
-        None => Err(Refusal::NotBuilt),
-    }
+    let files = load_feeds(alloc, shelf, names)?;
+    read_feeds(alloc, files.as_slice())
 }
 
-/// Reads the feed, and then the schedule. Its cost is linear in their bytes.
+/// Reads the feeds in their order, and then the schedule. Its cost is linear in their bytes.
 pub(crate) fn read_job<F: Shelf>(
     alloc: Global,
     shelf: &mut F,
-    form: Form<'_>,
+    words: ReplayWords,
 ) -> Result<Job, Refusal>
-    ensures ok { IfOk result (λ job. IsJob (shown form.entry) (F.content shelf.old) job.feed job.size) }
-    ensures read { IsErrOf result Refusal.Read → IsUnread (shown form.entry) (F.content shelf.old) (F.faults shelf.old) (F.faults shelf.new) }
-    ensures not_built { IsErrOf result Refusal.NotBuilt → IsNotBuilt (shown form.entry) (F.content shelf.old) }
+    requires ranges { AreInRange words }
+    ensures job { IfOk result (λ job. (files : Files) → Told (F.content shelf.old) (names_of words) files → IsJob words files (job_of job)) }
+    ensures fit { OnOk result ((files : Files) → Told (F.content shelf.old) (names_of words) files → FilesFit words files) }
+    ensures ready { IfOk result (λ job. IsReady (job_of job)) }
+    ensures read { IsErrOf result Refusal.Read → SomeRose (F.faults shelf.old) (F.faults shelf.new) (names_of words) }
+    ensures err { IfErr result (λ refusal. (files : Files) → Told (F.content shelf.old) (names_of words) files → IsOfFiles words files refusal) }
     ensures counts { (n : List ℕ) → F.faults shelf.old n ≤ F.faults shelf.new n }
+    ensures calm { (IsErrOf result Refusal.Read → ⊥) → (n : List ℕ) → F.faults shelf.new n ≡ F.faults shelf.old n }
 {
-    let feed = load_feed(alloc, shelf, form.feed)?;
-    let size = load_size(alloc, shelf, form.script, form.parts, feed.len())?;
-    Ok(Job { feed, size })
+    let feeds = load_records(alloc, shelf, words.feeds.as_slice())?;
+    let nodes = feeds.len() as u16;
+    let lines = load_lines(alloc, shelf, &words.script, nodes, words.parts)?;
+    Ok(Job {
+        feeds,
+        parts: words.parts,
+        options: words.options,
+        trace: words.trace,
+        lines,
+    })
 }

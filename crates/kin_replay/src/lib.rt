@@ -1,15 +1,14 @@
-//! The command `replay`, for the one form of words and schedule that is built.
+//! The command `replay`: words, feeds and a schedule in, a report out.
 #![tactic(auto)]
 
+mod blocks;
 mod counts;
+mod files;
 mod jobs;
+pub mod laws;
+mod plays;
 mod refusals;
-mod reports;
-pub mod rows;
-pub mod runs;
-pub mod schedules;
-pub mod words;
-pub mod worlds;
+pub mod replays;
+mod runs;
 
-pub use runs::{Run, replay};
-pub use worlds::World;
+pub use replays::{Run, replay};

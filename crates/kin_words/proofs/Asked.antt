@@ -12,6 +12,7 @@ use Rattle.kin_words.specs.Rules.{app_for}
 use Rattle.kin_words.specs.Reads.{Parses, HasItems, Matches}
 use Rattle.kin_words.specs.declared.faults.WordsFault.{WordsFault}
 use Rattle.kin_words.proofs.Spellings.{AreNames}
+use Rattle.kin_words.proofs.Readings.{some_is}
 use Rattle.kin_words.proofs.Apps.{tells, one_line, no_flag, one_flag}
 
 demo_are : AreNames demo_names.options demo_names.flags
@@ -74,3 +75,23 @@ replay_told words m h w r = record {
   where
     at : (n : Text) → has n replay_names.options ≡ true → value_at n h.items ≡ first_value (found_of m) n
     at n o = sym (h.values n o)
+
+-- words ask for at most one thing
+pub replay_once : (words : List Text) (v w : ReplayWords) → AsksReplay words v → AsksReplay words w → v ≡ w
+replay_once words v w a b = λ i. record {
+  script = some_is v.script w.script (sym a.chooses.script ∙ at (codes "script") ∙ b.chooses.script) i;
+  feeds = some_is v.feeds w.feeds (sym a.chooses.feeds ∙ ap (option_and_then names_of) (at (codes "feeds")) ∙ b.chooses.feeds) i;
+  parts = some_is v.parts w.parts (sym a.chooses.parts ∙ ap (or_default 1 (number_from 1 64)) (at (codes "parts")) ∙ b.chooses.parts) i;
+  options = record {
+    rules = some_is v.options.rules w.options.rules (sym a.chooses.rules ∙ ap (or_default (chosen rule_names) rules_of) (at (codes "rules")) ∙ b.chooses.rules) i;
+    landmarks = some_is v.options.landmarks w.options.landmarks (sym a.chooses.landmarks ∙ ap (or_default [] landmarks_of) (at (codes "landmarks")) ∙ b.chooses.landmarks) i;
+    top = some_is v.options.top w.options.top (sym a.chooses.top ∙ ap (or_default 10 (number_from 0 1000)) (at (codes "top")) ∙ b.chooses.top) i;
+  };
+  trace = (a.chooses.trace ∙ ap (is_taken (codes "trace")) same ∙ sym b.chooses.trace) i;
+}
+  where
+    same : a.items ≡ b.items
+    same = one_line (codes "replay") replay_names.options replay_names.flags replay_are (one_flag (codes "trace") replay_names.options refl) words a.items b.items a.line b.line
+
+    at : (n : Text) → value_at n a.items ≡ value_at n b.items
+    at n = ap (value_at n) same

@@ -3,5 +3,5 @@ mod Readings
 mod Spellings
 mod Equals
 mod Apps
-mod Asked
+pub mod Asked
 mod Parts

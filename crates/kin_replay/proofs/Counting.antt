@@ -1,0 +1,56 @@
+-- How much an epoch adds at the first nodes.
+use Rattle.std.proofs.Common.{◌≡◌, ℕ, zero, suc, ◌+◌, ◌-◌, ◌<◌, ◌≤◌, get_or, cond, Bool, true, false, List, [], ◌∷◌, ◌++◌, length, take, drop, refl, sym, ap, ◌∙◌, arith}
+use Rattle.std.specs.List.{sum_by, count_by}
+use Rattle.std.proofs.lemmas.List.{length-append, length-take, length-drop, take_more}
+use Rattle.std.proofs.lemmas.List.Sums.{sum_by-cons, sum_by-append, sum_by-take-le}
+use Rattle.kin_ids.specs.declared.ops.Record.{Record}
+use Rattle.kin_ids.specs.Operations.{is_bad}
+use Rattle.kin_ids.specs.Order.{Entry, between, entries, feed_at, of_epoch}
+use Rattle.kin_ids.proofs.Joins.{length-entries}
+
+-- so many records stand between two positions of a feed
+length-between : (feed : List Record) (from to : ℕ) → from ≤ to → to ≤ length feed → length (between feed from to) ≡ to - from
+length-between feed from to lo hi = let a = length-take (to - from) (drop from feed) in let b = length-drop from feed in omega (arith, a, b, lo, hi)
+
+count-append : {X : Type 0} (p : X → Bool) (xs ys : List X) → count_by p (xs ++ ys) ≡ count_by p xs + count_by p ys
+count-append p xs ys = sum_by-append (λ x. cond (p x) 1 0) xs ys
+
+-- the Bad ones among entries are those among their records
+bad-entries : (e i n : ℕ) (rs : List Record) → count_by (λ (x : Entry). is_bad x.content) (entries e i n rs) ≡ count_by is_bad rs
+bad-entries e i n [] = refl
+bad-entries e i n (r ∷ rs) =
+    let a = sum_by-cons (λ (x : Entry). cond (is_bad x.content) 1 0) (record { place = record { epoch = record { 0 = e }; ingest = record { 0 = i }; number = n + 1 }; content = r }) (entries e i (n + 1) rs) in
+    let b = sum_by-cons (λ (x : Record). cond (is_bad x) 1 0) r rs in
+    let c = bad-entries e i (n + 1) rs in
+    omega (arith, a, b, c)
+
+count-le : {X : Type 0} (p : X → Bool) (xs : List X) → count_by p xs ≤ length xs
+count-le p [] = omega arith
+count-le p (x ∷ xs) = let a = sum_by-cons (λ y. cond (p y) 1 0) x xs in let b = count-le p xs in by-test (p x) a b
+    where
+      by-test : (t : Bool) → count_by p (x ∷ xs) ≡ cond t 1 0 + count_by p xs → count_by p xs ≤ length xs → count_by p (x ∷ xs) ≤ suc (length xs)
+      by-test true a b = omega (arith, a, b)
+      by-test false a b = omega (arith, a, b)
+
+module _ (feeds : List (List Record)) (e : ℕ) (was now : ℕ → ℕ) (i : ℕ) (lo : was i ≤ now i) (hi : now i ≤ length (feed_at feeds i)) where
+  pub records-more : length (of_epoch feeds e was now (i + 1)) ≡ length (of_epoch feeds e was now i) + (now i - was i)
+  records-more =
+      let rs = between (feed_at feeds i) (was i) (now i) in
+      let next : i + 1 ≡ suc i = omega arith in
+      rw next (let a = length-append (of_epoch feeds e was now i) (entries e i (was i) rs) in let b = length-entries e i (was i) rs in let c = length-between (feed_at feeds i) (was i) (now i) lo hi in omega (arith, a, b, c))
+
+  pub bad-more : count_by (λ (x : Entry). is_bad x.content) (of_epoch feeds e was now (i + 1)) ≡ count_by (λ (x : Entry). is_bad x.content) (of_epoch feeds e was now i) + count_by is_bad (between (feed_at feeds i) (was i) (now i))
+  bad-more =
+      let rs = between (feed_at feeds i) (was i) (now i) in
+      let next : i + 1 ≡ suc i = omega arith in
+      rw next (count-append (λ (x : Entry). is_bad x.content) (of_epoch feeds e was now i) (entries e i (was i) rs) ∙ ap (λ (n : ℕ). count_by (λ (x : Entry). is_bad x.content) (of_epoch feeds e was now i) + n) (bad-entries e i (was i) rs))
+
+  pub bad-few : count_by is_bad (between (feed_at feeds i) (was i) (now i)) ≤ now i - was i
+  bad-few = let a = count-le is_bad (between (feed_at feeds i) (was i) (now i)) in let b = length-between (feed_at feeds i) (was i) (now i) lo hi in omega (arith, a, b)
+
+-- the feeds up to one more node have together at least the records of that feed more
+pub feeds-more : (feeds : List (List Record)) (i : ℕ) → i < length feeds → sum_by (λ (f : List Record). length f) (take (i + 1) feeds) ≡ sum_by (λ (f : List Record). length f) (take i feeds) + length (feed_at feeds i)
+feeds-more feeds i lt =
+    let a = sum_by-append (λ (f : List Record). length f) (take i feeds) (get_or feeds i [] ∷ []) in
+    let b = sum_by-cons (λ (f : List Record). length f) (get_or feeds i []) [] in
+    rw (take_more feeds i [] lt) (omega (arith, a, b))

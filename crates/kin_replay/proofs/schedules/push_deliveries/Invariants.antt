@@ -1,6 +1,0 @@
-use Rattle.std.proofs.Common.{◌≡◌, ◌++◌, string_bytes}
-use Rattle.kin_replay.specs.FirstSchedule.{deliver_text}
-use Rattle.kin_replay.proofs.schedules.push_deliveries.Given as goal
-
-abbrev pub invariant-loop-p : goal.invariant-loop-p
-invariant-loop-p l = string_bytes l.text ≡ string_bytes l.fn.text ++ deliver_text l.n l.p-counter
