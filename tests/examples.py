@@ -13,6 +13,7 @@ from plain import Files
 from programs import TOP, Check, answer, conclude, program_of
 
 EXAMPLES = {
+    'first': '--rules in --script s --feeds a',
     'late': '--parts 2 --script schedule --feeds follows',
     'debian': '--parts 4 --landmarks 1 --script by-year --feeds feed0.csv,feed1.csv,feed2.csv',
 }

@@ -5,8 +5,7 @@
     tests/run.py --plain                    all that needs no program: the plain evaluation on what is worked by hand
 
 PROGRAM is the launcher `kineo` at the top of the repository, which builds the program, where it is left out.
-STAGE says how far the program is: `first`, whose `replay` takes one form of words and schedule; `replay`, which
-takes every schedule; or `demo`, which has `demo` too. The last line is `N passed, M failed`.
+STAGE says how far the program is: `replay`, or `demo` where it has both. The last line is `N passed, M failed`.
 """
 import argparse
 import os
@@ -26,9 +25,9 @@ from model import files_of, stored
 from programs import TOP, Check, answer, answer_over, conclude, program_of
 from texts import text_of
 
-STAGES = ('first', 'replay', 'demo')
+STAGES = ('replay', 'demo')
 # How far the program is.
-STAGE = 'first'
+STAGE = 'replay'
 
 STORED_SEEDS = range(1, 301)
 FIRST = os.path.join(TOP, 'examples', 'first')
@@ -36,7 +35,6 @@ WORDS = ['replay', '--rules', 'in', '--script', 's', '--feeds', 'a']
 ONE = 'stamp 0 1\ndeliver 0 0 0 1\nreport 0\nraise 0\ncut\n'
 LINES = ['stamp 0 1', 'deliver 0 0 0 1', 'report 0', 'raise 0', 'cut', 'cut 1', 'commit 0', 'begin', 'turn 1', 'mine',
          'crash 0', 'restart 0']
-NOT_BUILT = Answer('', 11, 'kineo: not built\n')
 CANNOT_WRITE = Answer(None, 5, 'kineo: cannot write\n')
 ONE_BAD = Answer('epoch 1 0@1 records 1 bad 1\n', 0, '')
 MOST_BYTES, MOST_RECORDS, MOST_LINES = 33554432, 2097152, 1048576
@@ -68,43 +66,35 @@ def changed_lines(program):
                 yield Check(f'the schedule {files["s"]!r}', want, answer_over(program, [*WORDS, '--trace'], files))
 
 
-def at_the_limits(program, is_whole):
-    """Feeds and schedules of the most bytes, records and lines, and of one more."""
-    cases = [
-        ('a feed of the most bytes', WORDS, {'a': 'f' * MOST_BYTES, 's': ONE}, ONE_BAD),
-        ('a feed of one byte more', WORDS, {'a': 'f' * (MOST_BYTES + 1), 's': ONE}, limit('feed-bytes')),
-        ('a feed of the most records', WORDS, {'a': 'f\n' * MOST_RECORDS, 's': ONE}, ONE_BAD),
-        ('a feed of one record more', WORDS, {'a': 'f\n' * (MOST_RECORDS + 1), 's': ONE}, limit('records')),
-        ('a schedule of one byte more', WORDS, {'a': '', 's': long_schedule(MOST_BYTES + 1)}, limit('script-bytes')),
-    ]
-    if is_whole:
-        cases += more_at_the_limits()
-    for name, words, files, want in cases:
-        if want.status == 6 and not is_whole:
-            want = NOT_BUILT
+def limit_cases():
+    """Feeds and schedules of the most bytes, records and lines, and of one more; and files that are missing after these."""
+    two = [*WORDS[:-1], 'a,b']
+    yield 'a feed of the most bytes', WORDS, {'a': 'f' * MOST_BYTES, 's': ONE}, ONE_BAD
+    yield 'a feed of one byte more', WORDS, {'a': 'f' * (MOST_BYTES + 1), 's': ONE}, limit('feed-bytes')
+    yield 'a feed of the most records', WORDS, {'a': 'f\n' * MOST_RECORDS, 's': ONE}, ONE_BAD
+    yield 'a feed of one record more', WORDS, {'a': 'f\n' * (MOST_RECORDS + 1), 's': ONE}, limit('records')
+    yield 'a schedule of one byte more', WORDS, {'a': '', 's': long_schedule(MOST_BYTES + 1)}, limit('script-bytes')
+    yield 'feeds of one byte more together', two, {'a': 'f' * MOST_BYTES, 'b': 'f'}, limit('feed-bytes')
+    yield 'a feed of one byte more, and no second feed', two, {'a': 'f' * (MOST_BYTES + 1)}, limit('feed-bytes')
+    yield 'a feed of the most bytes, and no second feed', two, {'a': 'f' * MOST_BYTES}, CANNOT_READ
+    yield 'feeds of one record more together', two, {'a': 'f\n' * MOST_RECORDS, 'b': 'f\n'}, limit('records')
+    yield 'a feed of one record more, and no schedule', WORDS, {'a': 'f\n' * (MOST_RECORDS + 1)}, limit('records')
+    yield 'a feed of the most records, and no schedule', WORDS, {'a': 'f\n' * MOST_RECORDS}, CANNOT_READ
+    yield 'a feed of the most records, and no event', WORDS, {'a': 'f\n' * MOST_RECORDS, 's': ''}, Answer('', 0, '')
+    yield 'a schedule of the most bytes', WORDS, {'a': 'f\n', 's': long_schedule(MOST_BYTES)}, ONE_BAD
+    yield 'a schedule of the most lines', WORDS, {'a': 'f\n', 's': ONE + '\n' * (MOST_LINES - 5)}, ONE_BAD
+    yield 'a schedule of one line more', WORDS, {'a': 'f\n', 's': 'x\n' + '\n' * MOST_LINES}, limit('script-lines')
+
+
+def at_the_limits(program):
+    """The program on files at its limits."""
+    for name, words, files, want in limit_cases():
         yield Check(name, want, answer_over(program, words, files))
 
 
 def long_schedule(size):
     """The schedule with a remark that makes it so many bytes long."""
     return ONE + '#' * (size - len(ONE))
-
-
-def more_at_the_limits():
-    """What only the program that takes every schedule can tell apart."""
-    two = [*WORDS[:-1], 'a,b']
-    return [
-        ('feeds of one byte more together', two, {'a': 'f' * MOST_BYTES, 'b': 'f'}, limit('feed-bytes')),
-        ('a feed of one byte more, and no second feed', two, {'a': 'f' * (MOST_BYTES + 1)}, limit('feed-bytes')),
-        ('a feed of the most bytes, and no second feed', two, {'a': 'f' * MOST_BYTES}, CANNOT_READ),
-        ('feeds of one record more together', two, {'a': 'f\n' * MOST_RECORDS, 'b': 'f\n'}, limit('records')),
-        ('a feed of one record more, and no schedule', WORDS, {'a': 'f\n' * (MOST_RECORDS + 1)}, limit('records')),
-        ('a feed of the most records, and no schedule', WORDS, {'a': 'f\n' * MOST_RECORDS}, CANNOT_READ),
-        ('a feed of the most records, and no event', WORDS, {'a': 'f\n' * MOST_RECORDS, 's': ''}, Answer('', 0, '')),
-        ('a schedule of the most bytes', WORDS, {'a': 'f\n', 's': long_schedule(MOST_BYTES)}, ONE_BAD),
-        ('a schedule of the most lines', WORDS, {'a': 'f\n', 's': ONE + '\n' * (MOST_LINES - 5)}, ONE_BAD),
-        ('a schedule of one line more', WORDS, {'a': 'f\n', 's': 'x\n' + '\n' * MOST_LINES}, limit('script-lines')),
-    ]
 
 
 def where_nothing_can_be_written(program):
@@ -132,24 +122,18 @@ def where_nothing_can_be_written(program):
     yield Check('a full standard output and no feed', CANNOT_READ._replace(stdout=None), full({'s': ONE}))
 
 
-def others(program, is_whole):
+def others(program):
     """What a table of texts can't say."""
-    yield Check('a word that is no text', USAGE if is_whole else NOT_BUILT, answer(program, [*WORDS, b'\xff']))
+    yield Check('a word that is no text', USAGE, answer(program, [*WORDS, b'\xff']))
     yield Check('a folder for a feed', CANNOT_READ, answer_over(program, [*WORDS[:-1], '.'], {'s': ONE}))
-    want = Answer('epoch 1 0@2 records 2 bad 0\nin 2 2\n', 0, '')
-    yield Check('the first example', want, answer(program, WORDS, FIRST))
 
 
 def checks(program, stage):
     """All checks."""
-    is_whole = stage != 'first'
-    yield from at_the_limits(program, is_whole)
+    yield from at_the_limits(program)
     yield from where_nothing_can_be_written(program)
-    yield from others(program, is_whole)
-    if not is_whole:
-        yield from from_data(program, 'cases.json')
-        return
-    yield from from_data(program, 'replay_cases.json')
+    yield from others(program)
+    yield from from_data(program, 'cases.json')
     yield from worked_runs(program)
     yield from changed_lines(program)
     yield from examples.checks(program)

@@ -1,3 +1,4 @@
+mod FeedRows
 mod Loads
 mod Languages
 mod Refused

@@ -5,3 +5,4 @@ pub mod Refusals
 pub mod Loaded
 pub mod Ends
 pub mod Counts
+pub mod FeedRows

@@ -17,9 +17,9 @@ use std::alloc::Global;
 
 /// What is printed of a run.
 #[derive(Debug, Drop)]
-pub struct Printing {
-    pub options: OptionWords,
-    pub trace: bool,
+pub(crate) struct Printing {
+    pub(crate) options: OptionWords,
+    pub(crate) trace: bool,
 }
 
 // The trace line of an event of the schedule, where the trace is asked for.
@@ -46,7 +46,7 @@ fn block_of(alloc: Global, world: &World, k: Epoch, options: &OptionWords) -> Re
 }
 
 /// What the answer to an event prints: its trace line, and the block of the epoch that it mined.
-pub fn text_of(
+pub(crate) fn text_of(
     alloc: Global,
     world: &World,
     printing: &Printing,

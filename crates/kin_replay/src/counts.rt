@@ -11,9 +11,9 @@ use kin_table::Cut;
 
 /// The records of an epoch, and those of them that are Bad.
 #[derive(Clone, Copy, Debug, PartialEq, Eq)]
-pub struct Counts {
-    pub records: u64,
-    pub bad: u64,
+pub(crate) struct Counts {
+    pub(crate) records: u64,
+    pub(crate) bad: u64,
 }
 
 // Where a cut ends a node, and the start where there is no cut.
@@ -28,7 +28,7 @@ fn position(cut: Option<&Cut>, node: usize) -> u64
 }
 
 /// The counts of the epoch from one cut, or the start, to the next. It costs O(log n) in the Bad records of each feed.
-pub fn counts_of(feeds: &[Feed], was: Option<&Cut>, now: &Cut) -> Counts
+pub(crate) fn counts_of(feeds: &[Feed], was: Option<&Cut>, now: &Cut) -> Counts
     requires within { AreWithin feeds.now (position_in (option_map (λ c. c.now) was)) (position_in (Some now.now)) }
     requires few { sum_by (λ (feed : List Record). length feed) feeds.now ≤ 2097152 }
     ensures records { (e : ℕ) → result.records ≡ length (of_epoch feeds.now e (position_in (option_map (λ c. c.now) was.entry)) (position_in (Some now.now)) (length feeds.now)) }

@@ -9,6 +9,7 @@ pub mod laws;
 mod plays;
 mod refusals;
 pub mod replays;
+pub mod rows;
 mod runs;
 
 pub use replays::{Run, replay};

@@ -18,7 +18,7 @@ use std::alloc::Global;
 
 /// Why a run stopped.
 #[derive(Clone, Copy, Debug, PartialEq, Eq)]
-pub enum Stop {
+pub(crate) enum Stop {
     /// The report could not be written.
     Write,
     /// There was not enough memory.
@@ -121,7 +121,7 @@ fn play_drain<O: Sink>(
 }
 
 /// A schedule and its drain, and then all that was written is brought out.
-pub fn play_all<O: Sink>(
+pub(crate) fn play_all<O: Sink>(
     alloc: Global,
     world: &mut World,
     printing: &Printing,

@@ -6,10 +6,13 @@ ghost use Rattle.kin_replay.specs.Jobs.{IsReady};
 ghost use Rattle.kin_replay.specs.Ends.{JobEnds};
 ghost use Rattle.kin_replay.specs.Loaded.{job_of};
 
+use crate::blocks::Printing;
 use crate::jobs::Job;
+use crate::plays::{Stop, play_all};
 use crate::replays::Run;
 use kin_ids::Status;
 use kin_io::Sink;
+use kin_world::World;
 use std::alloc::Global;
 
 /// Runs the schedule and its drain, and writes what they print.
@@ -20,9 +23,24 @@ pub(crate) fn run_job<O: Sink>(alloc: Global, job: Job, out: &mut O) -> Run
     ensures cause { result.status ≡ Status.Write → Rose (O.faults out.old) (O.faults out.new) }
     ensures calm { (result.status ≡ Status.Write → ⊥) → O.faults out.new ≡ O.faults out.old }
 {
-    let _stub = (alloc, job);
+    let printing = Printing {
+        options: job.options,
+        trace: job.trace,
+    };
+    let landmarks = printing.options.landmarks.as_slice();
+    let Ok(mut world) = World::open(alloc, job.feeds, job.parts, landmarks) else {
+        return Run {
+            status: Status::Memory,
+            world: None,
+        };
+    };
+    let status = match play_all(alloc, &mut world, &printing, job.lines.as_slice(), out) {
+        Ok(()) => Status::Done,
+        Err(Stop::Write) => Status::Write,
+        Err(Stop::Memory) => Status::Memory,
+    };
     Run {
-        status: Status::Memory,
-        world: None,
+        status,
+        world: Some(world),
     }
 }
