@@ -1,12 +1,13 @@
 -- How much an epoch adds at the first nodes.
-use Rattle.std.proofs.Common.{◌≡◌, ℕ, zero, suc, ◌+◌, ◌-◌, ◌<◌, ◌≤◌, get_or, cond, Bool, true, false, List, [], ◌∷◌, ◌++◌, length, take, drop, refl, sym, ap, ◌∙◌, arith}
+use Rattle.std.proofs.Common.{◌≡◌, ℕ, suc, ◌+◌, ◌-◌, ◌<◌, ◌≤◌, get_or, cond, Bool, true, false, List, [], ◌∷◌, ◌++◌, length, take, drop, refl, ap, ◌∙◌, arith}
 use Rattle.std.specs.List.{sum_by, count_by}
-use Rattle.std.proofs.lemmas.List.{length-append, length-take, length-drop, take_more}
-use Rattle.std.proofs.lemmas.List.Sums.{sum_by-cons, sum_by-append, sum_by-take-le}
+use Rattle.std.proofs.lemmas.List.{length-append, length-take, length-drop, take_more, get_or_read_under}
+use Rattle.std.proofs.lemmas.List.Sums.{sum_by-cons, sum_by-append}
 use Rattle.kin_ids.specs.declared.ops.Record.{Record}
 use Rattle.kin_ids.specs.Operations.{is_bad}
 use Rattle.kin_ids.specs.Order.{Entry, between, entries, feed_at, of_epoch}
 use Rattle.kin_ids.proofs.Joins.{length-entries}
+use Rattle.kin_replay.specs.Counts.{AreWithin}
 
 -- so many records stand between two positions of a feed
 length-between : (feed : List Record) (from to : ℕ) → from ≤ to → to ≤ length feed → length (between feed from to) ≡ to - from
@@ -27,10 +28,10 @@ bad-entries e i n (r ∷ rs) =
 count-le : {X : Type 0} (p : X → Bool) (xs : List X) → count_by p xs ≤ length xs
 count-le p [] = omega arith
 count-le p (x ∷ xs) = let a = sum_by-cons (λ y. cond (p y) 1 0) x xs in let b = count-le p xs in by-test (p x) a b
-    where
-      by-test : (t : Bool) → count_by p (x ∷ xs) ≡ cond t 1 0 + count_by p xs → count_by p xs ≤ length xs → count_by p (x ∷ xs) ≤ suc (length xs)
-      by-test true a b = omega (arith, a, b)
-      by-test false a b = omega (arith, a, b)
+  where
+    by-test : (t : Bool) → count_by p (x ∷ xs) ≡ cond t 1 0 + count_by p xs → count_by p xs ≤ length xs → count_by p (x ∷ xs) ≤ suc (length xs)
+    by-test true a b = omega (arith, a, b)
+    by-test false a b = omega (arith, a, b)
 
 module _ (feeds : List (List Record)) (e : ℕ) (was now : ℕ → ℕ) (i : ℕ) (lo : was i ≤ now i) (hi : now i ≤ length (feed_at feeds i)) where
   pub records-more : length (of_epoch feeds e was now (i + 1)) ≡ length (of_epoch feeds e was now i) + (now i - was i)
@@ -54,3 +55,27 @@ feeds-more feeds i lt =
     let a = sum_by-append (λ (f : List Record). length f) (take i feeds) (get_or feeds i [] ∷ []) in
     let b = sum_by-cons (λ (f : List Record). length f) (get_or feeds i []) [] in
     rw (take_more feeds i [] lt) (omega (arith, a, b))
+
+-- what is counted at the first i nodes: no more records than their feeds have, and no more Bad ones than records
+pub record IsCounted (feeds : List (List Record)) (was now : ℕ → ℕ) (i records bad : ℕ) : Type 0 where
+  pub records_are : (e : ℕ) → records ≡ length (of_epoch feeds e was now i)
+  pub bad_are : (e : ℕ) → bad ≡ count_by (λ (x : Entry). is_bad x.content) (of_epoch feeds e was now i)
+  pub few : records ≤ sum_by (λ (f : List Record). length f) (take i feeds)
+  pub some : bad ≤ records
+
+-- one node more
+pub count-more : (feeds : List (List Record)) (was now : ℕ → ℕ) (i records bad from to more : ℕ) (feed : List Record) → AreWithin feeds was now → i < length feeds
+    → feed ≡ get_or feeds i feed → from ≡ was i → to ≡ now i → more ≡ count_by is_bad (between feed from to) → IsCounted feeds was now i records bad
+    → IsCounted feeds was now (i + 1) (records + (to - from)) (bad + more)
+count-more feeds was now i records bad from to more feed within lt at first last some c =
+    let lo = (within i lt).0 in
+    let hi = (within i lt).1 in
+    let here : feed ≡ feed_at feeds i = get_or_read_under feeds i (length feeds) feed [] at lt refl in
+    let all : more ≡ count_by is_bad (between (feed_at feeds i) (was i) (now i)) = some ∙ ap (λ (f : List Record). count_by is_bad (between f from to)) here
+    ∙ ap (λ (n : ℕ). count_by is_bad (between (feed_at feeds i) n to)) first ∙ ap (λ (n : ℕ). count_by is_bad (between (feed_at feeds i) (was i) n)) last in
+    record {
+      records_are = λ e. let a = c.records_are e in let b = records-more feeds e was now i lo hi in omega (arith, a, b, first, last);
+      bad_are = λ e. let a = c.bad_are e in let b = bad-more feeds e was now i lo hi in omega (arith, a, b, all);
+      few = let a = c.few in let b = feeds-more feeds i lt in omega (arith, a, b, first, last, hi);
+      some = let a = c.some in let b = bad-few feeds 0 was now i lo hi in omega (arith, a, b, all, first, last);
+    }

@@ -1,8 +1,6 @@
 -- What a world's hub has of an epoch is what the history says.
-use Rattle.std.proofs.Common.{◌≡◌, ℕ, zero, suc, ◌+◌, ◌-◌, ◌<◌, ◌≤◌, get_or, List, [], ◌∷◌, ◌++◌, Option, Some, None, length, map, refl, sym, ap, ◌∙◌, arith}
+use Rattle.std.proofs.Common.{◌≡◌, ℕ, suc, ◌+◌, ◌<◌, ◌≤◌, get_or, List, [], ◌∷◌, length, map, refl, sym, ap, ◌∙◌, arith}
 use Rattle.std.specs.List.{range_with_len}
-use Rattle.kin_ids.specs.declared.stamps.End.{End}
-use Rattle.kin_ids.specs.declared.ids.Inc.{Inc}
 use Rattle.kin_ids.specs.Lines.{inc_at}
 use Rattle.kin_script.specs.declared.events.Event.{Event}
 use Rattle.kin_history.specs.Setting.{Setting, nodes}
@@ -29,7 +27,7 @@ module _ (set : Setting) (w : WorldView) (h : List Event) (s : Stands set w h) (
   within : k < length w.hub.core.table.vectors
   within = let n = s.epochs.vectors in omega (arith, n, le)
 
-  has-parts : 0 < set.parts
+  pub has-parts : 0 < set.parts
   has-parts =
       let c = s.epochs.hub.core in
       let a = c.core.table.parts in

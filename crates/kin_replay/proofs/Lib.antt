@@ -5,7 +5,12 @@ mod Refused
 mod Ranges
 mod Counting
 mod Cuts
+mod MinedBlocks
 mod Mined
 mod Played
+mod Playing
+mod Lines
+mod Drains
+mod Wholes
 mod Ended
 mod OneJob

@@ -5,4 +5,6 @@ pub mod Refusals
 pub mod Loaded
 pub mod Ends
 pub mod Counts
+pub mod Mined
+pub mod Left
 pub mod FeedRows

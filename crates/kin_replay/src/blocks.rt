@@ -5,7 +5,7 @@ ghost use Rattle.kin_script.specs.declared.events.Event.{Event};
 ghost use Rattle.kin_history.specs.Setting.{Setting};
 ghost use Rattle.kin_report.specs.Report.{block_after, traced};
 ghost use Rattle.kin_world.specs.Stands.{Stands, last_begun};
-ghost use Rattle.kin_replay.specs.Counts.{HasJustMined, HasMined, IsOfHistory};
+ghost use Rattle.kin_replay.specs.Mined.{HasJustMined, HasMined, IsOfHistory};
 ghost use Rattle.kin_replay.specs.Plays.{shown_answer};
 
 use crate::counts::counts_of;
@@ -23,7 +23,12 @@ pub(crate) struct Printing {
 }
 
 // The trace line of an event of the schedule, where the trace is asked for.
-fn trace_of(alloc: Global, trace: bool, number: Option<u64>, outcome: &Outcome) -> Result<Vec<u8>, Memory>
+fn trace_of(
+    alloc: Global,
+    trace: bool,
+    number: Option<u64>,
+    outcome: &Outcome,
+) -> Result<Vec<u8>, Memory>
     ensures { IfOk result (λ text. text.items ≡ traced trace number outcome.now) }
 {
     match number {
@@ -33,15 +38,24 @@ fn trace_of(alloc: Global, trace: bool, number: Option<u64>, outcome: &Outcome) 
 }
 
 // The block of the epoch that was just mined.
-fn block_of(alloc: Global, world: &World, k: Epoch, options: &OptionWords) -> Result<Vec<u8>, Memory>
+fn block_of(
+    alloc: Global,
+    world: &World,
+    k: Epoch,
+    options: &OptionWords,
+) -> Result<Vec<u8>, Memory>
     requires mined { HasJustMined world.now k.0 }
     requires landmarks { world.now.miner.landmarks ≡ options.now.landmarks }
     ensures { IfOk result (λ text. (set : Setting) (h : List Event) → Stands set world.now h → last_begun set h ≡ k.0 → text.items ≡ block_after set options.now h k.0) }
 {
     let hub = world.hub();
-    let Some(cut) = hub.cut_of(k) else { unreachable!() };
+    let Some(cut) = hub.cut_of(k) else {
+        unreachable!()
+    };
     let counts = counts_of(world.feeds(), hub.cut_of(Epoch(k.0 - 1)), cut);
-    let Ok(values) = world.miner().result() else { unreachable!() };
+    let Ok(values) = world.miner().result() else {
+        unreachable!()
+    };
     block(alloc, cut, counts.records, counts.bad, values, options)
 }
 

@@ -6,6 +6,7 @@ ghost use Rattle.kin_script.specs.declared.events.Line.{Line};
 ghost use Rattle.kin_history.specs.Setting.{IsEvent};
 ghost use Rattle.kin_hub.specs.Hubs.{cuts_in};
 ghost use Rattle.kin_world.specs.Worlds.{HasRoom, setting_of};
+ghost use Rattle.kin_world.specs.Stands.{HasHistory};
 ghost use Rattle.kin_report.specs.Report.{scheduled};
 ghost use Rattle.kin_replay.specs.Plays.{Plays, PlaysFront, PlaysDrain, PlaysDrainFront, PlaysWhole, PlaysWholeFront, MayUnflush};
 
@@ -58,11 +59,13 @@ fn play<O: Sink>(
 ) -> Result<(), Stop>
     requires event { IsEvent (setting_of world.old) event }
     requires room { HasRoom world.old event }
+    requires has { HasHistory world.old }
     requires landmarks { world.old.miner.landmarks ≡ printing.now.options.landmarks }
     ensures ok { OnOk result (Plays printing.now.options printing.now.trace (record { number = number; event = event } ∷ []) (record { world = world.old; taken = O.taken out.old }) (record { world = world.new; taken = O.taken out.new })) }
     ensures write { IsErrOf result Stop.Write → PlaysFront false printing.now.options printing.now.trace (record { number = number; event = event } ∷ []) (record { world = world.old; taken = O.taken out.old }) (record { world = world.new; taken = O.taken out.new }) }
     ensures memory { IsErrOf result Stop.Memory → PlaysFront true printing.now.options printing.now.trace (record { number = number; event = event } ∷ []) (record { world = world.old; taken = O.taken out.old }) (record { world = world.new; taken = O.taken out.new }) }
     ensures setting { OnOk result (setting_of world.new ≡ setting_of world.old) }
+    ensures has { OnOk result (HasHistory world.new) }
     ensures cuts { cuts_in world.new.hub ≤ cuts_in world.old.hub + 1 }
     ensures flushed { OnOk result (MayUnflush (O.flushed out.old) (O.flushed out.new)) }
     ensures cause { IsErrOf result Stop.Write → Rose (O.faults out.old) (O.faults out.new) }
@@ -84,11 +87,13 @@ fn play_lines<O: Sink>(
 ) -> Result<(), Stop>
     requires lines { All (λ (line : Line). IsEvent (setting_of world.old) line.event) lines.now }
     requires room { cuts_in world.old.hub + length lines.now ≤ u32.MAX }
+    requires has { HasHistory world.old }
     requires landmarks { world.old.miner.landmarks ≡ printing.now.options.landmarks }
     ensures ok { OnOk result (Plays printing.now.options printing.now.trace (scheduled lines.now) (record { world = world.old; taken = O.taken out.old }) (record { world = world.new; taken = O.taken out.new })) }
     ensures write { IsErrOf result Stop.Write → PlaysFront false printing.now.options printing.now.trace (scheduled lines.now) (record { world = world.old; taken = O.taken out.old }) (record { world = world.new; taken = O.taken out.new }) }
     ensures memory { IsErrOf result Stop.Memory → PlaysFront true printing.now.options printing.now.trace (scheduled lines.now) (record { world = world.old; taken = O.taken out.old }) (record { world = world.new; taken = O.taken out.new }) }
     ensures setting { OnOk result (setting_of world.new ≡ setting_of world.old) }
+    ensures has { OnOk result (HasHistory world.new) }
     ensures flushed { OnOk result (MayUnflush (O.flushed out.old) (O.flushed out.new)) }
     ensures cause { IsErrOf result Stop.Write → Rose (O.faults out.old) (O.faults out.new) }
     ensures calm { (IsErrOf result Stop.Write → ⊥) → O.faults out.new ≡ O.faults out.old }
@@ -106,6 +111,7 @@ fn play_drain<O: Sink>(
     printing: &Printing,
     out: &mut O,
 ) -> Result<(), Stop>
+    requires has { HasHistory world.old }
     requires landmarks { world.old.miner.landmarks ≡ printing.now.options.landmarks }
     ensures ok { OnOk result (PlaysDrain printing.now.options printing.now.trace (record { world = world.old; taken = O.taken out.old }) (record { world = world.new; taken = O.taken out.new })) }
     ensures write { IsErrOf result Stop.Write → PlaysDrainFront false printing.now.options printing.now.trace (record { world = world.old; taken = O.taken out.old }) (record { world = world.new; taken = O.taken out.new }) }
@@ -130,6 +136,7 @@ pub(crate) fn play_all<O: Sink>(
 ) -> Result<(), Stop>
     requires lines { All (λ (line : Line). IsEvent (setting_of world.old) line.event) lines.now }
     requires room { cuts_in world.old.hub + length lines.now ≤ u32.MAX }
+    requires has { HasHistory world.old }
     requires landmarks { world.old.miner.landmarks ≡ printing.now.options.landmarks }
     ensures ok { OnOk result (PlaysWhole printing.now.options printing.now.trace lines.now (record { world = world.old; taken = O.taken out.old }) (record { world = world.new; taken = O.taken out.new })) }
     ensures write { IsErrOf result Stop.Write → PlaysWholeFront false printing.now.options printing.now.trace lines.now (record { world = world.old; taken = O.taken out.old }) (record { world = world.new; taken = O.taken out.new }) }
