@@ -67,7 +67,7 @@ def changed_lines(program):
 
 
 def limit_cases():
-    """Feeds and schedules of the most bytes, records and lines, and of one more; and files that are missing after these."""
+    """Feeds and schedules of the most bytes, records and lines, and of one more; and files missing after these."""
     two = [*WORDS[:-1], 'a,b']
     yield 'a feed of the most bytes', WORDS, {'a': 'f' * MOST_BYTES, 's': ONE}, ONE_BAD
     yield 'a feed of one byte more', WORDS, {'a': 'f' * (MOST_BYTES + 1), 's': ONE}, limit('feed-bytes')
