@@ -1,13 +1,15 @@
 #!/usr/bin/env python3
 """Times the program and parts of it on this machine. It is no test, and nothing is compared.
 
-    bench/run.py [PROGRAM]            parts, by the program of crates/kin_bench, as `rt run -- chains 1 forward` builds it there
-    bench/run.py --command [PROGRAM]  whole commands, by the launcher at the top of the repository where PROGRAM is left out
+    bench/run.py [PROGRAM]            parts, by the program of crates/kin_bench, which `rt run -- chains 1 forward`
+                                      builds there
+    bench/run.py --command [PROGRAM]  whole commands, by the launcher at the top of the repository where PROGRAM is left
+                                      out; `demo` last, which ends it as long as that isn't built
 
-A line has a job, its seconds, microseconds for each item, and its peak memory, which is no less than Python's own, about
-15 MiB. A line of a difference is what a job takes beyond another one: `worlds N steps` is `forward` beyond `open`, which
-reads the feeds and opens the world, so N events of a world; `commits N stamps` is `cuts` beyond `open`, the same records
-stamped, delivered, agreed and cut; and `commits N commits` is `forward` beyond `cuts`, the commits.
+A line has a job, its seconds, microseconds for each item, and its peak memory, which is no less than Python's own,
+about 15 MiB. A line of a difference is what a job takes beyond another one: `worlds N steps` is `forward` beyond
+`open`, which reads the feeds and opens the world, so N events of a world; `commits N stamps` is `cuts` beyond `open`,
+the same records stamped, delivered, agreed and cut; and `commits N commits` is `forward` beyond `cuts`, the commits.
 """
 import argparse
 import os
@@ -77,9 +79,7 @@ def parts(program):
 
 
 def commands(program):
-    """Times whole commands: generated jobs, the files of such a job, and a schedule of the most lines."""
-    for count in (20000, 50000, 200000):
-        show('demo', 'seed 7', count, cost([program, 'demo', '--seed', '7', '--records', str(count)]))
+    """Times whole commands: the files of a generated job, a schedule of the most lines, and generated jobs."""
     with tempfile.TemporaryDirectory() as folder:
         write(folder, 7, 200000)
         words = [program, *REPLAY, 'feed0,feed1,feed2', '--parts', '4', '--landmarks', '0']
@@ -87,6 +87,8 @@ def commands(program):
         with open(os.path.join(folder, 'schedule'), 'w', encoding='ascii') as file:
             file.write(text_of(['report 0', 'cut'] * (LINES // 2)))
         show('replay', 'lines', LINES, cost([program, *REPLAY, 'feed0'], folder))
+    for count in (20000, 50000, 200000):
+        show('demo', 'seed 7', count, cost([program, 'demo', '--seed', '7', '--records', str(count)]))
 
 
 def main():

@@ -1,5 +1,5 @@
 # Completes the words of kineo in bash: `. completions/kineo.bash`, then `kineo re<TAB>`.
-# They are the words of the whole command; today's program takes one form of it, which docs/FORMATS.md shows.
+# `demo` isn't built yet: the program answers it with `kineo: usage`.
 
 # The options of a command.
 _kineo_options() {

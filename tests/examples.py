@@ -2,7 +2,7 @@
 """Runs the examples that ship, and compares each report with the file `report` beside it.
 
     tests/examples.py [PROGRAM]  by the program
-    tests/examples.py --plain    by the plain evaluation, and what was made of the reports: pictures, and where years end
+    tests/examples.py --plain    by the plain evaluation, and what was made of reports: pictures, and where years end
 """
 import argparse
 import os

@@ -67,7 +67,7 @@ def changed_lines(program):
 
 
 def limit_cases():
-    """Feeds and schedules of the most bytes, records and lines, and of one more; and files that are missing after these."""
+    """Feeds and schedules of the most bytes, records and lines, and of one more; and files missing after these."""
     two = [*WORDS[:-1], 'a,b']
     yield 'a feed of the most bytes', WORDS, {'a': 'f' * MOST_BYTES, 's': ONE}, ONE_BAD
     yield 'a feed of one byte more', WORDS, {'a': 'f' * (MOST_BYTES + 1), 's': ONE}, limit('feed-bytes')
@@ -128,6 +128,13 @@ def others(program):
     yield Check('a folder for a feed', CANNOT_READ, answer_over(program, [*WORDS[:-1], '.'], {'s': ONE}))
 
 
+def without_a_command(program, stage):
+    """Words of commands that aren't built are those of no command."""
+    unbuilt = ['live --feeds a --every 1', *(['demo --seed 1 --records 1'] if stage == 'replay' else [])]
+    for words in unbuilt:
+        yield Check(f'the words {words!r}', USAGE, answer(program, words.split()))
+
+
 def checks(program, stage):
     """All checks."""
     yield from at_the_limits(program)
@@ -141,6 +148,7 @@ def checks(program, stage):
     yield from replay.checks(program, replay.odd_cases())
     yield from replay.checks(program, map(replay.random_case, STORED_SEEDS))
     yield from manual.checks(program, ('replay', 'demo') if stage == 'demo' else ('replay',))
+    yield from without_a_command(program, stage)
     if stage == 'demo':
         yield from demo.checks(program)
 

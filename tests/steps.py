@@ -162,7 +162,8 @@ def stored_checks():
     """Whether each stored file is what `write` would write."""
     for name, text in stored_texts().items():
         with open(os.path.join(STEPS, name), encoding='utf-8') as file:
-            yield Check(f'the stored {name} of kin_steps, which `tests/steps.py --write` writes', True, file.read() == text)
+            title = f'the stored {name} of kin_steps, which `tests/steps.py --write` writes'
+            yield Check(title, True, file.read() == text)
 
 
 def checks(program, cases):
@@ -189,7 +190,8 @@ def main():
     if asked.write:
         write()
     elif asked.stored:
-        conclude(chain(stored_checks(), checks(os.path.abspath(asked.program), stored_cases()) if asked.program else ()))
+        more = checks(os.path.abspath(asked.program), stored_cases()) if asked.program else ()
+        conclude(chain(stored_checks(), more))
     else:
         first = int(time.time()) % MOST_RECORDS if asked.seed is None else asked.seed
         print(f'seeds {first} to {first + asked.count - 1}')
