@@ -24,6 +24,7 @@ fn play(events: &mut Vec<Event>, seed: u64, n: u64) -> Result<(), Memory>
 }
 
 /// The events of a job of n records, 1 to 500000, over three feeds and four partitions, up to the drain. Its cost is linear in n.
+#[tactic(auto, unfolding(crate::specs::Rounds::gen_events))]
 pub fn events_of(alloc: Global, seed: u64, n: u64) -> Result<Vec<Event>, Memory>
     requires { n ≤ 500000 }
     ensures { IfOk result (λ events. events.items ≡ rounds.gen_events seed n) }

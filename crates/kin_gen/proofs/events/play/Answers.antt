@@ -1,9 +1,9 @@
-use Rattle.std.proofs.Common.{rules, ℕ, zero, suc, ◌≡◌, ◌∙◌, ◌++◌, ◌+◌, ◌-◌, ◌<◌, ◌≤◌, List, [], Bool, true, false, refl, sym, ap, subst, arith, append_assoc}
+use Rattle.std.proofs.Common.{rules, ℕ, zero, suc, ◌≡◌, ◌∙◌, ◌++◌, ◌+◌, ◌-◌, ◌<◌, ◌≤◌, List, [], Bool, true, false, refl, sym, ap, arith, append_assoc}
 use Rattle.std.specs.Prelude.{if◌then◌else◌}
 use Rattle.std.proofs.lemmas.List.{append-nil}
 use Rattle.kin_script.specs.declared.events.Event.{Event}
 use Rattle.kin_gen.specs.declared.rounds.Standing.{Standing}
-use Rattle.kin_gen.specs.Rounds.{AreYoung, is_going, rounds, round, after_round, opening}
+use Rattle.kin_gen.specs.Rounds.{is_going, rounds, round, after_round}
 use Rattle.kin_gen.proofs.Young.{young-next, young-opening}
 use Rattle.kin_gen.proofs.events.play.Goals as goal
 

@@ -1,5 +1,4 @@
-use Rattle.std.proofs.Common.{ℕ, ◌≡◌, ◌*◌, ◌<◌, ◌/◌, ◌%◌, get_or, subst, sym, arith}
-use Rattle.kin_gen.specs.declared.rounds.Standing.{Standing}
+use Rattle.std.proofs.Common.{◌*◌, ◌<◌, ◌/◌, ◌%◌, get_or, subst, sym, arith}
 use Rattle.kin_gen.specs.Rounds.{AreYoung}
 use Rattle.kin_gen.proofs.Young.{young-turns}
 use Rattle.kin_gen.proofs.rounds.Standing.round.Goals as goal
