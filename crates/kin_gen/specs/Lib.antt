@@ -1,3 +1,4 @@
 pub mod Draws
 pub mod Feeds
 pub mod Rounds
+pub mod Laws

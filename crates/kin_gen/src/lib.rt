@@ -9,11 +9,13 @@
 mod draws;
 pub mod events;
 pub mod feeds;
+pub mod laws;
 mod records;
 mod rounds;
 
 pub use events::events_of;
 pub use feeds::feeds_of;
+pub use laws::{event_laws, feed_laws};
 
 #[cfg(test)]
 mod tests;
