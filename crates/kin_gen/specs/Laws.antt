@@ -8,7 +8,7 @@ use Rattle.kin_gen.specs.Rounds.{feed_length, opening, rounds, gen_events}
 
 -- the other user of an edge is another one of the users
 abbrev pub OtherLaw : Type 0
-OtherLaw = (users u b : ℕ) → 2 ≤ users → u < users → (other users u b < users) × (other users u b ≢ u)
+OtherLaw = (users u b : ℕ) → 2 ≤ users → (other users u b < users) × (other users u b ≢ u)
 
 -- a feed has as many lines as the rounds take it to have
 abbrev pub LinesLaw : Type 0

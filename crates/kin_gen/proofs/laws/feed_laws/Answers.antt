@@ -1,0 +1,12 @@
+use Rattle.kin_gen.proofs.Texts.{others}
+use Rattle.kin_gen.proofs.Totals.{count-lines, small}
+use Rattle.kin_gen.proofs.laws.feed_laws.Goals as goal
+
+pub returns-clause-others : goal.returns-clause-others
+returns-clause-others c = others
+
+pub returns-clause-lines : goal.returns-clause-lines
+returns-clause-lines c = count-lines
+
+pub returns-clause-small : goal.returns-clause-small
+returns-clause-small c = small
