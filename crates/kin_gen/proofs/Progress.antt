@@ -1,12 +1,12 @@
 -- How far nodes are: each round takes every node at least nine records further, or to the end of its feed.
-use Rattle.std.proofs.Common.{ℕ, zero, suc, ◌≡◌, ◌≢◌, ◌∙◌, ◌+◌, ◌-◌, ◌*◌, ◌/◌, ◌%◌, ◌<◌, ◌≤◌, ◌++◌, min, Bool, true, false, List, [], ◌∷◌, get_or, set, length, refl, sym, ap, subst, arith, length-append, length-set, get_or-set_same, get_or-set_other, lit<}
-use Rattle.std.specs.Prelude.{◌==◌, ◌||◌, nat_lt, if◌then◌else◌, map, slice_index, slice_set, None}
+use Rattle.std.proofs.Common.{ℕ, zero, suc, ◌≡◌, ◌≢◌, ◌∙◌, ◌+◌, ◌-◌, ◌*◌, ◌/◌, ◌%◌, ◌<◌, ◌≤◌, ◌++◌, min, Bool, true, false, List, [], ◌∷◌, get_or, set, length, refl, sym, ap, subst, arith, length-append, length-set, get_or-set_same, get_or-set_other}
+use Rattle.std.specs.Prelude.{◌==◌, ◌||◌, nat_lt, if◌then◌else◌, map, slice_index, None}
 use Rattle.std.proofs.lemmas.Bool.Decides.{nat_tests}
 use Rattle.std.proofs.lemmas.List.{length-map}
 use Rattle.kin_script.specs.declared.events.Event.{Event}
 use Rattle.kin_script.specs.declared.events.Event.TheVariants as event
 use Rattle.kin_gen.specs.declared.rounds.Standing.{Standing}
-use Rattle.kin_gen.specs.Draws.{draw, after}
+use Rattle.kin_gen.specs.Draws.{draw}
 use Rattle.kin_gen.specs.Rounds as rounds
 use Rattle.kin_gen.specs.Rounds.{feed_length, has_left, stamp_end, turn, after_turn, after_turns, nodes, round, after_round, with_restart, restarted, is_going, every, opening, gen_events}
 

@@ -1,12 +1,11 @@
 -- Lines of generated records are short, and have no LF within them.
-use Rattle.std.proofs.Common.{ℕ, zero, suc, ◌≡◌, ◌≢◌, ◌∙◌, ◌+◌, ◌-◌, ◌*◌, ◌/◌, ◌%◌, ◌^◌, ◌<◌, ◌≤◌, ◌++◌, Bool, true, false, List, [], ◌∷◌, All, get_or, length, refl, sym, ap, arith, length-append, lit<}
-use Rattle.std.specs.Prelude.{◌==◌, ◌&&◌, nat_lt, if◌then◌else◌, codes, slice_index}
+use Rattle.std.proofs.Common.{ℕ, zero, suc, ◌≡◌, ◌≢◌, ◌+◌, ◌-◌, ◌*◌, ◌/◌, ◌%◌, ◌^◌, ◌<◌, ◌≤◌, ◌++◌, Bool, true, false, [], ◌∷◌, All, length, refl, arith, length-append}
+use Rattle.std.specs.Prelude.{◌==◌, nat_lt, if◌then◌else◌, codes}
 use Rattle.std.specs.Fmt.{decimal}
 use Rattle.std.proofs.lemmas.Bool.Decides.{nat_tests}
 use Rattle.std.proofs.lemmas.Fmt.{length-decimal-le, decimal_by_steps}
 use Rattle.std.proofs.lemmas.List.Elements.{All-append, All-cons, All-nil}
 use Rattle.kin_gen.specs.Draws.{State, draw, after}
-use Rattle.kin_gen.specs.Feeds as feeds
 use Rattle.kin_gen.specs.Feeds.{Text, user, other, item, items, edge, item_count, record_text, line}
 
 -- no byte is LF

@@ -1,6 +1,6 @@
 -- Incarnations grow in every 256th round alone.
 use Rattle.std.proofs.Common.{ℕ, zero, suc, ◌≡◌, ◌+◌, ◌*◌, ◌%◌, ◌<◌, Bool, true, false, List, [], ◌∷◌, get_or, set, refl, sym, subst, ◌∙◌, arith}
-use Rattle.std.specs.Prelude.{◌==◌, if◌then◌else◌, slice_index}
+use Rattle.std.specs.Prelude.{◌==◌, if◌then◌else◌}
 use Rattle.std.proofs.lemmas.Bool.Decides.{nat_tests}
 use Rattle.kin_gen.specs.declared.rounds.Standing.{Standing}
 use Rattle.kin_gen.specs.Rounds.{AreYoung, has_left, nodes, after_turn, after_turns, with_restart, restarted, after_round, opening}

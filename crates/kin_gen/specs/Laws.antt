@@ -1,5 +1,5 @@
 -- What holds of every generated job.
-use Rattle.std.specs.Prelude.{ℕ, ◌≡◌, ◌≢◌, ◌<◌, ◌≤◌, List, All, length, sum_by}
+use Rattle.std.specs.Prelude.{ℕ, ◌≡◌, ◌≢◌, ◌<◌, ◌≤◌, All, length, sum_by}
 use Rattle.kin_ids.specs.Sizes.{most_bytes, most_lines}
 use Rattle.kin_line.specs.Lines.{lines}
 use Rattle.kin_script.specs.Schedules.{IsInRange}

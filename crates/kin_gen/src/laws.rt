@@ -1,6 +1,7 @@
 //! Laws of the generated job, each the contract of a function that does nothing.
 
 ghost use Rattle.kin_gen.specs.Laws as laws;
+ghost use Rattle.kin_gen.specs.Worked as worked;
 
 /// The feeds: nobody follows or unfollows itself, each feed has a line for each record that is dealt to it, and together they
 /// are within the limit of bytes.
@@ -16,4 +17,12 @@ pub fn event_laws()
     ensures range { laws.RangeLaw }
     ensures few { laws.FewLaw }
     ensures ended { laws.EndLaw }
+{}
+
+/// Rows by hand: records, stamps and rounds of given draws.
+pub fn worked_rows()
+    ensures records { worked.RecordRows }
+    ensures dealt { worked.DealtRows }
+    ensures stamps { worked.StampRows }
+    ensures rounds { worked.RoundRows }
 {}

@@ -15,7 +15,7 @@ mod rounds;
 
 pub use events::events_of;
 pub use feeds::feeds_of;
-pub use laws::{event_laws, feed_laws};
+pub use laws::{event_laws, feed_laws, worked_rows};
 
 #[cfg(test)]
 mod tests;

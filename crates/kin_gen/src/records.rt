@@ -118,7 +118,11 @@ fn push_record(
 
 /// Appends the line of the next record, over so many users.
 #[tactic(auto, unfolding(crate::specs::Feeds::line, crate::specs::Feeds::after_line))]
-pub(crate) fn push_line(text: &mut Vec<u8>, draws: &mut Xoshiro256PlusPlus, users: u64) -> Result<(), Memory>
+pub(crate) fn push_line(
+    text: &mut Vec<u8>,
+    draws: &mut Xoshiro256PlusPlus,
+    users: u64,
+) -> Result<(), Memory>
     requires { 2 ≤ users }
     ensures text { OnOk result (text.new.items ≡ text.old.items ++ feeds.line users draws.old) }
     ensures draws { OnOk result (draws.new ≡ feeds.after_line draws.old) }

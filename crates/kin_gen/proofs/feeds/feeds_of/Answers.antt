@@ -52,7 +52,7 @@ returns c =
     let all : List Text = map (λ (t : Vec ℕ Global). t.items) vectors in
     let count : length all ≡ 3 = length-map vectors (λ (t : Vec ℕ Global). t.items) ∙ c.loop-r.invariant.count in
     let whole = λ (feed : ℕ) (within : feed < 3).
-        sym (dealt-over feed c.loop-r.r (get_or all feed []))
-        ∙ ap (λ (lines : List Text). get_or all feed [] ++ dealt feed c.loop-r.r lines) (sym (lines-over (user_count c.args.n) c.args.n c.loop-r.r c.loop-r.draws c.loop-r-test.false))
-        ∙ c.loop-r.invariant.texts feed within in
+    sym (dealt-over feed c.loop-r.r (get_or all feed []))
+    ∙ ap (λ (lines : List Text). get_or all feed [] ++ dealt feed c.loop-r.r lines) (sym (lines-over (user_count c.args.n) c.args.n c.loop-r.r c.loop-r.draws c.loop-r-test.false))
+    ∙ c.loop-r.invariant.texts feed within in
     three all _ _ _ count (whole 0 (lit< tt)) (whole 1 (lit< tt)) (whole 2 (lit< tt))
