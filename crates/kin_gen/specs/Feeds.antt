@@ -35,12 +35,17 @@ edge kind users u b = kind ++ decimal u ++ codes "," ++ decimal (other users u b
 abbrev pub item_count : ℕ → ℕ
 item_count b = 1 + b % 3
 
--- a record by its first two draws and the state after them: of 16 kinds nine are follows, one is an unfollow, five are tweets, and the last is none
+-- a tweet of a user, with so many items
+abbrev pub tweet : ℕ → ℕ → ℕ → State → Text
+tweet users u count state = codes "t," ++ decimal u ++ items users count state
+
+-- a record by its first two draws and the state after them: of 16 draws nine give a follow, one an unfollow, five a
+-- tweet, and one a record that is bad
 unfoldable pub record_text : ℕ → ℕ → ℕ → State → Text
 record_text users a b state =
     if nat_lt (a % 16) 9 then edge (codes "f,") users (user users a) b
     else (if a % 16 == 9 then edge (codes "x,") users (user users a) b
-    else (if nat_lt (a % 16) 15 then codes "t," ++ decimal (user users a) ++ items users (item_count b) state
+    else (if nat_lt (a % 16) 15 then tweet users (user users a) (item_count b) state
     else codes "?"))
 
 -- the state after a record: a tweet takes a draw for each of its items

@@ -12,11 +12,13 @@ OtherLaw = (users u b : ℕ) → 2 ≤ users → (other users u b < users) × (o
 
 -- a feed has as many lines as the rounds take it to have
 abbrev pub LinesLaw : Type 0
-LinesLaw = (seed n feed : ℕ) → n ≤ 500000 → feed < 3 → length (lines (gen_feed seed n feed)) ≡ feed_length n feed
+LinesLaw = (seed n feed : ℕ) → n ≤ 500000 → feed < 3
+    → length (lines (gen_feed seed n feed)) ≡ feed_length n feed
 
 -- the feeds together are within the limit of bytes
 abbrev pub SmallLaw : Type 0
-SmallLaw = (seed n : ℕ) → n ≤ 500000 → sum_by (λ (text : Text). length text) (gen_feeds seed n) ≤ most_bytes
+SmallLaw = (seed n : ℕ) → n ≤ 500000
+    → sum_by (λ (text : Text). length text) (gen_feeds seed n) ≤ most_bytes
 
 -- events are in range over three nodes and four partitions
 abbrev pub RangeLaw : Type 0

@@ -25,11 +25,11 @@ stamp_size w = 9 + w % 8
 abbrev pub stamp_end : ℕ → Standing → ℕ → ℕ → ℕ
 stamp_end n at i w = min (slice_index at.next i + stamp_size w) (feed_length n i)
 
--- the partitions in the order in which a draw has them get a stamp
+-- the order in which a draw has the partitions get a stamp
 abbrev pub in_order : ℕ → List ℕ
 in_order w = if w / 8 % 2 == 0 then 0 ∷ 1 ∷ 2 ∷ 3 ∷ [] else 3 ∷ 2 ∷ 1 ∷ 0 ∷ []
 
--- of eight draws one has a partition get it again
+-- the partition that gets it again, by one draw in eight
 abbrev pub again : ℕ → List ℕ
 again w = if w / 16 % 8 == 0 then (w / 128 % 4) ∷ [] else []
 
@@ -37,9 +37,14 @@ again w = if w / 16 % 8 == 0 then (w / 128 % 4) ∷ [] else []
 abbrev pub delivered : ℕ → ℕ → ℕ → ℕ → Event
 delivered i inc to p = event.Deliver (record { 0 = p }) (record { 0 = i }) (record { 0 = inc }) to
 
--- a stamp of a draw, and its pieces
+-- the pieces of a draw's stamp
+abbrev pub pieces : ℕ → ℕ → ℕ → ℕ → List Event
+pieces i inc to w = map (delivered i inc to) (in_order w ++ again w)
+
+-- a draw's stamp and its pieces
 abbrev pub stamping : ℕ → Standing → ℕ → ℕ → List Event
-stamping n at i w = event.Stamp (record { 0 = i }) (stamp_size w) ∷ map (delivered i (slice_index at.incs i) (stamp_end n at i w)) (in_order w ++ again w)
+stamping n at i w =
+    event.Stamp (record { 0 = i }) (stamp_size w) ∷ pieces i (slice_index at.incs i) (stamp_end n at i w) w
 
 -- a node's turn in a round
 unfoldable pub turn : ℕ → Standing → ℕ → List Event
@@ -79,23 +84,29 @@ restart i = event.Crash (record { 0 = i }) ∷ event.Restart (record { 0 = i }) 
 abbrev pub restarted : ℕ → ℕ
 restarted number = number / 256 % 3
 
--- events of every so manyth round
+-- events of every round whose number is a multiple of a period
 abbrev pub every : ℕ → ℕ → List Event → List Event
 every period number events = if number % period == 0 then events else []
 
 -- a round, with its number from 1 on
 unfoldable pub round : ℕ → ℕ → Standing → List Event
 round n number at =
-    turns n at nodes ++ every 8 number agreement ++ every 64 number (event.Cut None ∷ []) ++ every 256 number (restart (restarted number))
+    turns n at nodes
+    ++ every 8 number agreement
+    ++ every 64 number (event.Cut None ∷ [])
+    ++ every 256 number (restart (restarted number))
 
 -- an incarnation grows where the node came back
 abbrev pub with_restart : ℕ → Standing → Standing
 with_restart i at = record at { incs = slice_set at.incs i (slice_index at.incs i + 1) }
 
 unfoldable pub after_round : ℕ → ℕ → Standing → Standing
-after_round n number at = if number % 256 == 0 then with_restart (restarted number) (after_turns n at nodes) else after_turns n at nodes
+after_round n number at =
+    if number % 256 == 0
+    then with_restart (restarted number) (after_turns n at nodes)
+    else after_turns n at nodes
 
--- before a round with this number no node came back more often than once in 256 rounds
+-- before the round with this number no node came back more often than once in 256 rounds
 abbrev pub AreYoung : ℕ → Standing → Type 0
 AreYoung number at = (i : ℕ) → slice_index at.incs i * 256 < number
 
@@ -103,11 +114,14 @@ AreYoung number at = (i : ℕ) → slice_index at.incs i * 256 < number
 abbrev pub is_going : ℕ → Standing → Bool
 is_going n at = has_left n at 0 || has_left n at 1 || has_left n at 2
 
--- the rounds from this number on, which go on while some node has records left, and are at most so many
+-- at most so many rounds, numbered from here on: they go on while some node has records left
 unfoldable pub rounds : ℕ → ℕ → ℕ → Standing → List Event
 rounds n zero number at = []
-rounds n (suc most) number at = if is_going n at then round n number at ++ rounds n most (number + 1) (after_round n number at) else []
+rounds n (suc most) number at =
+    if is_going n at
+    then round n number at ++ rounds n most (number + 1) (after_round n number at)
+    else []
 
--- the events of a job of n records, up to the drain; n rounds are more than there are
+-- the events of a job of n records, up to the drain; its rounds are never more than n
 unfoldable pub gen_events : ℕ → ℕ → List Event
 gen_events seed n = rounds n n 1 (opening seed) ++ agreement ++ (event.Cut None ∷ [])

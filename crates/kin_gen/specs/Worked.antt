@@ -37,8 +37,10 @@ piece p to = event.Deliver (record { 0 = p }) (record { 0 = 1 }) (record { 0 = 1
 
 -- stamps by their draw: 265 is 2 * 128 + 0 * 16 + 1 * 8 + 1, and 23 is 1 * 16 + 0 * 8 + 7
 pub record StampRows : Type 0 where
-  pub backwards : stamping 66 halfway 1 265 ≡ event.Stamp (record { 0 = 1 }) 10 ∷ piece 3 21 ∷ piece 2 21 ∷ piece 1 21 ∷ piece 0 21 ∷ piece 2 21 ∷ []
-  pub to_the_end : stamping 66 halfway 1 23 ≡ event.Stamp (record { 0 = 1 }) 16 ∷ piece 0 22 ∷ piece 1 22 ∷ piece 2 22 ∷ piece 3 22 ∷ []
+  pub backwards : stamping 66 halfway 1 265
+      ≡ event.Stamp (record { 0 = 1 }) 10 ∷ piece 3 21 ∷ piece 2 21 ∷ piece 1 21 ∷ piece 0 21 ∷ piece 2 21 ∷ []
+  pub to_the_end : stamping 66 halfway 1 23
+      ≡ event.Stamp (record { 0 = 1 }) 16 ∷ piece 0 22 ∷ piece 1 22 ∷ piece 2 22 ∷ piece 3 22 ∷ []
 
 -- rounds over empty feeds: the 8th, the 64th and the 512th, at which node 2 comes back
 abbrev pub empty : Standing
@@ -48,5 +50,6 @@ pub record RoundRows : Type 0 where
   pub seventh : round 0 7 empty ≡ []
   pub eighth : round 0 8 empty ≡ agreement
   pub cut : round 0 64 empty ≡ agreement ++ event.Cut None ∷ []
-  pub restart : round 0 512 empty ≡ agreement ++ event.Cut None ∷ event.Crash (record { 0 = 2 }) ∷ event.Restart (record { 0 = 2 }) ∷ []
+  pub restart : round 0 512 empty
+      ≡ agreement ++ event.Cut None ∷ event.Crash (record { 0 = 2 }) ∷ event.Restart (record { 0 = 2 }) ∷ []
   pub restarted : (after_round 0 512 empty).incs ≡ 0 ∷ 1 ∷ 1 ∷ []

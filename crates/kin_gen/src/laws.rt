@@ -3,16 +3,16 @@
 ghost use Rattle.kin_gen.specs.Laws as laws;
 ghost use Rattle.kin_gen.specs.Worked as worked;
 
-/// The feeds: nobody follows or unfollows itself, each feed has a line for each record that is dealt to it, and together they
-/// are within the limit of bytes.
+/// The feeds: nobody follows or unfollows itself, each feed has a line for each record that is dealt to it, and together
+/// they are within the limit of bytes.
 pub fn feed_laws()
     ensures others { laws.OtherLaw }
     ensures lines { laws.LinesLaw }
     ensures small { laws.SmallLaw }
 {}
 
-/// The events: they are in range over three feeds and four partitions, no more than a schedule has room for, and their rounds
-/// go on until no node has records left.
+/// The events: they are in range over three feeds and four partitions, no more than a schedule has room for, and their
+/// rounds go on until no node has records left.
 pub fn event_laws()
     ensures range { laws.RangeLaw }
     ensures few { laws.FewLaw }

@@ -1,7 +1,6 @@
 //! Lines of records, written draw by draw.
 
-ghost use Rattle.std.specs.Prelude.{◌≡◌, ◌++◌, ◌<◌, ◌≤◌, OnOk, codes};
-ghost use Rattle.std.specs.Fmt.{decimal};
+ghost use Rattle.std.specs.Prelude.{◌≡◌, ◌++◌, ◌<◌, ◌≤◌, OnOk};
 ghost use Rattle.kin_gen.specs.Draws.{past};
 ghost use Rattle.kin_gen.specs.Feeds as feeds;
 
@@ -83,7 +82,7 @@ fn push_tweet(
     count: u64,
 ) -> Result<(), Memory>
     requires { 0 < users }
-    ensures text { OnOk result (text.new.items ≡ text.old.items ++ (codes "t," ++ decimal user ++ feeds.items users count draws.old)) }
+    ensures text { OnOk result (text.new.items ≡ text.old.items ++ feeds.tweet users user count draws.old) }
     ensures draws { OnOk result (draws.new ≡ past count draws.old) }
 {
     text.extend_from_slice(b"t,")?;

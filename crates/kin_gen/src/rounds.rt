@@ -1,6 +1,6 @@
 //! The rounds of a job.
 
-ghost use Rattle.std.specs.Prelude.{◌≡◌, ◌≤◌, ◌<◌, ℕ, ◌++◌, map, slice_index, true, OnOk};
+ghost use Rattle.std.specs.Prelude.{◌≡◌, ◌≤◌, ◌<◌, ℕ, ◌++◌, map, slice_index, OnOk};
 ghost use Rattle.kin_gen.specs.Rounds as rounds;
 
 use crate::draws::{generator, next};
@@ -20,6 +20,7 @@ const CUTTING: u64 = 64;
 
 const RESTARTING: u64 = 256;
 
+// Every partition reports, and every node's agreed position is raised.
 const AGREEMENT: [Event; 7] = [
     Event::Report { part: PartId(0) },
     Event::Report { part: PartId(1) },
@@ -83,7 +84,7 @@ fn deliver_all(
     inc: Inc,
     to: u64,
 ) -> Result<(), Memory>
-    ensures { OnOk result (events.new.items ≡ events.old.items ++ map (rounds.delivered ingest.0 inc.0 to) (rounds.in_order word ++ rounds.again word)) }
+    ensures { OnOk result (events.new.items ≡ events.old.items ++ rounds.pieces ingest.0 inc.0 to word) }
 {
     let order = if word / 8 % 2 == 0 { FORTH } else { BACK };
     deliver(events, &order, ingest, inc, to)?;
@@ -130,15 +131,17 @@ impl Standing {
         self.has_left(n, 0) || self.has_left(n, 1) || self.has_left(n, 2)
     }
 
-    // A node stamps records, and their pieces come to the partitions.
+    // A node's turn in a round: it stamps records, where it has any left, and their pieces come to the partitions.
     #[tactic(auto, unfolding(crate::specs::Rounds::turn, crate::specs::Rounds::after_turn))]
-    fn stamp(&mut self, n: u64, node: u16, events: &mut Vec<Event>) -> Result<(), Memory>
+    fn turn(&mut self, n: u64, node: u16, events: &mut Vec<Event>) -> Result<(), Memory>
         requires within { n ≤ 500000 }
         requires node { node < 3 }
-        requires left { rounds.has_left n self.old node ≡ true }
         ensures events { OnOk result (events.new.items ≡ events.old.items ++ rounds.turn n self.old node) }
         ensures standing { OnOk result (self.new ≡ rounds.after_turn n self.old node) }
     {
+        if !self.has_left(n, node) {
+            return Ok(());
+        }
         let i = usize::from(node);
         let ingest = IngestId(node);
         let word = next(&mut self.draws);
@@ -147,20 +150,6 @@ impl Standing {
         events.push(Event::Stamp { ingest, n: size })?;
         deliver_all(events, word, ingest, Inc(self.incs[i]), to)?;
         self.next[i] = to;
-        Ok(())
-    }
-
-    // A node's turn in a round.
-    #[tactic(auto, unfolding(crate::specs::Rounds::turn, crate::specs::Rounds::after_turn))]
-    fn turn(&mut self, n: u64, node: u16, events: &mut Vec<Event>) -> Result<(), Memory>
-        requires within { n ≤ 500000 }
-        requires node { node < 3 }
-        ensures events { OnOk result (events.new.items ≡ events.old.items ++ rounds.turn n self.old node) }
-        ensures standing { OnOk result (self.new ≡ rounds.after_turn n self.old node) }
-    {
-        if self.has_left(n, node) {
-            self.stamp(n, node, events)?;
-        }
         Ok(())
     }
 
