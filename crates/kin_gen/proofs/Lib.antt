@@ -4,3 +4,4 @@ pub mod Progress
 pub mod Ranges
 pub mod Texts
 pub mod Totals
+pub mod Rows

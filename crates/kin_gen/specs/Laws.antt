@@ -1,6 +1,7 @@
 -- What holds of every generated job.
 use Rattle.std.specs.Prelude.{ℕ, ◌≡◌, ◌≢◌, ◌<◌, ◌≤◌, All, length, sum_by}
 use Rattle.kin_ids.specs.Sizes.{most_bytes, most_lines}
+use Rattle.kin_feed.specs.Records.{records_of}
 use Rattle.kin_line.specs.Lines.{lines}
 use Rattle.kin_script.specs.Schedules.{IsInRange}
 use Rattle.kin_gen.specs.Feeds.{Text, other, gen_feed, gen_feeds}
@@ -10,7 +11,12 @@ use Rattle.kin_gen.specs.Rounds.{feed_length, opening, rounds, gen_events}
 abbrev pub OtherLaw : Type 0
 OtherLaw = (users u b : ℕ) → 2 ≤ users → (other users u b < users) × (other users u b ≢ u)
 
--- a feed has as many lines as the rounds take it to have
+-- a feed has as many records as the rounds take it to have
+abbrev pub RecordsLaw : Type 0
+RecordsLaw = (seed n feed : ℕ) → n ≤ 500000 → feed < 3
+    → length (records_of (gen_feed seed n feed)) ≡ feed_length n feed
+
+-- and as many lines
 abbrev pub LinesLaw : Type 0
 LinesLaw = (seed n feed : ℕ) → n ≤ 500000 → feed < 3
     → length (lines (gen_feed seed n feed)) ≡ feed_length n feed

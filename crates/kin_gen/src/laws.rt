@@ -3,10 +3,11 @@
 ghost use Rattle.kin_gen.specs.Laws as laws;
 ghost use Rattle.kin_gen.specs.Worked as worked;
 
-/// The feeds: nobody follows or unfollows itself, each feed has a line for each record that is dealt to it, and together
-/// they are within the limit of bytes.
+/// The feeds: nobody follows or unfollows itself, each feed has the records that are dealt to it, a line each, and
+/// together they are within the limit of bytes.
 pub fn feed_laws()
     ensures others { laws.OtherLaw }
+    ensures records { laws.RecordsLaw }
     ensures lines { laws.LinesLaw }
     ensures small { laws.SmallLaw }
 {}
