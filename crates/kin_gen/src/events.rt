@@ -23,8 +23,8 @@ fn play(events: &mut Vec<Event>, seed: u64, n: u64) -> Result<(), Memory>
     Ok(())
 }
 
-/// The events of a job of n records, 1 to 500000, over three feeds and four partitions, up to the drain, as `event_laws`
-/// says of them. Node i is that of the i-th of `feeds_of`. Its cost is linear in n.
+/// The events of a job of n records, 1 to 500000, over three feeds and four partitions, up to the drain. Node i reads
+/// text i of `feeds_of`, and `event_laws` says what holds of the events. Its cost is linear in n.
 #[tactic(auto, unfolding(crate::specs::Rounds::gen_events))]
 pub fn events_of(alloc: Global, seed: u64, n: u64) -> Result<Vec<Event>, Memory>
     requires { n ≤ 500000 }

@@ -8,8 +8,8 @@ use crate::records::push_line;
 use kin_ids::Memory;
 use std::alloc::Global;
 
-/// The texts of the three feeds of n records, 1 to 500000: record r, from 0 on, goes to feed r modulo 3. `feed_laws` says
-/// what holds of them. Its cost is linear in n.
+/// The texts of the three feeds of n records, 1 to 500000: record r, from 0 on, goes to feed r modulo 3. `feed_laws`
+/// says what holds of them. Its cost is linear in n.
 pub fn feeds_of(alloc: Global, seed: u64, n: u64) -> Result<Vec<Vec<u8>>, Memory>
     requires { n ≤ 500000 }
     ensures { IfOk result (λ feeds. map (λ f. f.items) feeds.items ≡ gen_feeds seed n) }

@@ -2,8 +2,8 @@
 //!
 //! Every byte and every event is read off the next word of a named generator by a fixed rule, so a job is the same
 //! wherever it is made. The feeds have follows, unfollows, tweets and bad records, over as many users as a quarter of
-//! the records, and two. The events are those of three nodes and four partitions: stamps, pieces in both orders and some
-//! of them twice, agreed positions, cuts and restarts.
+//! the records, and two. The events are those of three nodes and four partitions: stamps, pieces in both orders and
+//! some of them twice, agreed positions, cuts and restarts.
 #![tactic(auto)]
 
 mod draws;
