@@ -3,6 +3,7 @@ use Rattle.std.specs.Prelude.{ℕ, zero, suc, ◌+◌, ◌-◌, ◌/◌, ◌%◌
 use Rattle.std.specs.Fmt.{decimal}
 use Rattle.kin_gen.specs.Draws.{State, seeded, draw, after, past}
 
+-- bytes
 abbrev pub Text : Type 0
 Text = List ℕ
 

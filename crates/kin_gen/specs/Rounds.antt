@@ -50,6 +50,7 @@ stamping n at i w =
 unfoldable pub turn : ℕ → Standing → ℕ → List Event
 turn n at i = if has_left n at i then stamping n at i (draw at.draws) else []
 
+-- where the rounds stand after it
 unfoldable pub after_turn : ℕ → Standing → ℕ → Standing
 after_turn n at i =
     if has_left n at i
@@ -61,14 +62,16 @@ abbrev pub turns : ℕ → Standing → List ℕ → List Event
 turns n at [] = []
 turns n at (i ∷ nodes) = turn n at i ++ turns n (after_turn n at i) nodes
 
+-- where they stand after these turns
 abbrev pub after_turns : ℕ → Standing → List ℕ → Standing
 after_turns n at [] = at
 after_turns n at (i ∷ nodes) = after_turns n (after_turn n at i) nodes
 
--- the nodes, and the partitions
+-- the three nodes
 abbrev pub nodes : List ℕ
 nodes = 0 ∷ 1 ∷ 2 ∷ []
 
+-- the four partitions
 abbrev pub parts : List ℕ
 parts = 0 ∷ 1 ∷ 2 ∷ 3 ∷ []
 
@@ -100,6 +103,7 @@ round n number at =
 abbrev pub with_restart : ℕ → Standing → Standing
 with_restart i at = record at { incs = slice_set at.incs i (slice_index at.incs i + 1) }
 
+-- where the rounds stand after it
 unfoldable pub after_round : ℕ → ℕ → Standing → Standing
 after_round n number at =
     if number % 256 == 0

@@ -23,6 +23,7 @@ pub record RecordRows : Type 0 where
 abbrev pub lines_of_seven : List (List ℕ)
 lines_of_seven = codes "a" ∷ codes "b" ∷ codes "c" ∷ codes "d" ∷ codes "e" ∷ codes "f" ∷ codes "g" ∷ []
 
+-- what each feed gets of them
 pub record DealtRows : Type 0 where
   pub first : dealt 0 0 lines_of_seven ≡ codes "adg"
   pub second : dealt 1 0 lines_of_seven ≡ codes "be"
@@ -32,6 +33,7 @@ pub record DealtRows : Type 0 where
 abbrev pub halfway : Standing
 halfway = record { draws = []; next = 22 ∷ 11 ∷ 22 ∷ []; incs = 0 ∷ 1 ∷ 0 ∷ [] }
 
+-- a piece of node 1 under this incarnation
 abbrev pub piece : ℕ → ℕ → Event
 piece p to = event.Deliver (record { 0 = p }) (record { 0 = 1 }) (record { 0 = 1 }) to
 
@@ -42,10 +44,11 @@ pub record StampRows : Type 0 where
   pub to_the_end : stamping 66 halfway 1 23
       ≡ event.Stamp (record { 0 = 1 }) 16 ∷ piece 0 22 ∷ piece 1 22 ∷ piece 2 22 ∷ piece 3 22 ∷ []
 
--- rounds over empty feeds: the 8th, the 64th and the 512th, at which node 2 comes back
+-- all feeds are empty
 abbrev pub empty : Standing
 empty = record { draws = []; next = 0 ∷ 0 ∷ 0 ∷ []; incs = 0 ∷ 1 ∷ 0 ∷ [] }
 
+-- rounds over empty feeds: the 7th, 8th, 64th and the 512th, at which node 2 comes back
 pub record RoundRows : Type 0 where
   pub seventh : round 0 7 empty ≡ []
   pub eighth : round 0 8 empty ≡ agreement
