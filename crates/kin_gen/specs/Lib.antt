@@ -1,0 +1,5 @@
+pub mod Draws
+pub mod Feeds
+pub mod Rounds
+pub mod Laws
+pub mod Worked
