@@ -133,7 +133,8 @@ fn numbers_of<V: View, L: Ledger>(
     ensures outs { IfOk result (λ n. n.outs.items ≡ map (out_seen (V.seen view.now)) index.now) }
     ensures said { IfOk result (λ n. n.said.items ≡ map (V.seen view.now).said index.now) }
     ensures long { IfOk result (λ n. length n.ranks.items ≡ length index.now) }
-    ensures ranks { IfOk result (λ n. (g : Graph) → IsViewOf g (V.seen view.now) → n.ranks.items ≡ map (rank g) index.now) }
+    ensures ranks { IfOk result (λ n. (g : Graph) → IsViewOf g (V.seen view.now)
+        → n.ranks.items ≡ map (rank g) index.now) }
 {
     Ok(Numbers {
         ins: in_counts(alloc, view, index.as_slice(), steps)?,
@@ -164,7 +165,8 @@ fn tag_rows<V: View, L: Ledger>(
     ensures in_use { IfOk result (λ r. (t : List ℕ) → has_tag r.tags.items t ≡ is_in_use (V.seen view.now) t) }
     ensures users { IfOk result (λ r. r.tag_users.items ≡ map (users_seen (V.seen view.now)) r.tags.items) }
     ensures lists { IfOk result (λ r. AreLists r.tags.items r.expos.items) }
-    ensures expos { IfOk result (λ r. (g : Graph) → IsViewOf g (V.seen view.now) → r.expos.items ≡ map (exposures_of g) r.tags.items) }
+    ensures expos { IfOk result (λ r. (g : Graph) → IsViewOf g (V.seen view.now)
+        → r.expos.items ≡ map (exposures_of g) r.tags.items) }
 {
     let tags = view.tags()?;
     let tag_users = tag_counts(alloc, view, tags.as_slice())?;
@@ -256,9 +258,10 @@ fn scratch_by<V: View, L: Ledger>(
     })
 }
 
-/// Evaluates all rules on a view that hands out a whole graph. The vertices are numbered once, and each list of edges is read into places
-/// once for walks, once for rank and once for exposure. Linear in the vertices and edges for each landmark and each layer of rank, with a
-/// look-up by hash an edge, O(log t) a use of a tag for t tags, and a sort of the vertices and tags.
+/// Evaluates all rules on a view that hands out a whole graph. The vertices are numbered once, and each list of edges
+/// is read into places once for walks, once for rank and once for exposure. Linear in the vertices and edges for each
+/// landmark and each layer of rank, with a look-up by hash an edge, O(log t) a use of a tag for t tags, and a sort of
+/// the vertices and tags.
 pub fn scratch<V: View>(
     alloc: Global,
     view: &V,
