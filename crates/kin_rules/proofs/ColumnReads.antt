@@ -1,7 +1,6 @@
 -- What is read in columns over the users.
-use Rattle.std.proofs.Common.{◌≡◌, ◌<◌, ◌≤◌, ◌+◌, ◌++◌, take, drop, ◌∙◌, ◌||◌, ◌&&◌, ℕ, Bool, true, false, eqb, List, length, get_or, set, map, cond, Option, None, Some, Result, Ok, Err, OnErr, All, arith, refl, sym, ap, subst}
-use Rattle.std.specs.List.{insert, list_any, position_or_len}
-use Rattle.std.specs.List.Sorted.{IsStrictlySortedBy}
+use Rattle.std.proofs.Common.{◌≡◌, ◌<◌, ◌≤◌, ◌+◌, ◌++◌, take, drop, ◌∙◌, ◌||◌, ◌&&◌, ℕ, Bool, true, false, eqb, List, length, get_or, set, map, cond, Option, None, Result, Ok, Err, OnErr, arith, refl, sym, ap, subst}
+use Rattle.std.specs.List.{insert, position_or_len}
 use Rattle.std.specs.Map.{lookup}
 use Rattle.std.proofs.lemmas.Bool.{both_ways}
 use Rattle.std.proofs.lemmas.Bool.Decides.{nat_tests}
@@ -13,7 +12,7 @@ use Rattle.kin_ids.specs.Users.{user_cmp, same_user, has_user}
 use Rattle.kin_ids.proofs.Same.{same_user-true, same_user-sym}
 use Rattle.kin_rules.specs.declared.columns.Column.{Column}
 use Rattle.kin_rules.specs.Places.{place}
-use Rattle.kin_rules.specs.Results.{ColumnView, no_column, value_of, value_in}
+use Rattle.kin_rules.specs.Results.{ColumnView, no_column, value_of}
 use Rattle.kin_rules.specs.Columns.{column_of, columns_of, AreOf, widened, SetsValue, SetsValueIn}
 use Rattle.kin_rules.specs.Spots.{StandsAt, WouldStandAt}
 use Rattle.kin_rules.proofs.Ascending.{read-insert, read-none, read-set, one-insert}

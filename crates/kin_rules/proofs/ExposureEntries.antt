@@ -3,7 +3,7 @@ use Rattle.std.proofs.Common.{◌≡◌, ◌<◌, ◌≤◌, take, ◌+◌, ◌=
 use Rattle.std.specs.List.{list_any, count_by, sum_by, IsDistinct, AllByRecursion}
 use Rattle.std.specs.List.Sorted.{IsPermutation}
 use Rattle.std.proofs.lemmas.Bool.{cases_Bool, or_left, or_right}
-use Rattle.std.proofs.lemmas.List.Sums.{sum_by-cons}
+use Rattle.std.proofs.lemmas.List.Sums.{sum_by-append, sum_by-cons}
 use Rattle.std.proofs.lemmas.List.Sorted.{sum_by-IsPermutation, list_any-IsPermutation, IsPermutation-refl, IsPermutation-map}
 use Rattle.kin_ids.specs.declared.ids.User.{User}
 use Rattle.kin_ids.specs.declared.ops.Half.{Half}
@@ -30,14 +30,11 @@ use Rattle.kin_rules.specs.LayerTables.{facts_seen, neighbours_seen}
 use Rattle.kin_rules.specs.Places.{place}
 use Rattle.kin_rules.specs.Edges.{places_of, rows_of}
 use Rattle.kin_rules.specs.Top.{in_order}
-use Rattle.kin_rules.specs.Orderings.{in_order-permutes}
+use Rattle.kin_rules.specs.Orderings.{count-cons, in_order-permutes}
 use Rattle.kin_rules.proofs.Entries.{vertices-once}
 use Rattle.kin_rules.proofs.Places.{map-place}
 use Rattle.kin_rules.proofs.LayerRows.{has-filter, places-of}
 use Rattle.kin_rules.proofs.LayerViews.{has-sources, inputs-whole, map-same}
-
-count-cons : {X : Type 0} (p : X → Bool) (x : X) (xs : List X) → count_by p (x ∷ xs) ≡ cond (p x) 1 0 + count_by p xs
-count-cons p x xs = sum_by-cons (λ y. cond (p y) 1 0) x xs
 
 count-same : {X : Type 0} (p q : X → Bool) (xs : List X) → ((x : X) → p x ≡ q x) → count_by p xs ≡ count_by q xs
 count-same p q [] same = refl
@@ -51,12 +48,7 @@ count-permutation : {X : Type 0} (p : X → Bool) (xs ys : List X) → IsPermuta
 count-permutation p xs ys h = sym (sum_by-IsPermutation (λ x. cond (p x) 1 0) xs ys h)
 
 pub count-append : {X : Type 0} (p : X → Bool) (xs ys : List X) → count_by p (xs ++ ys) ≡ count_by p xs + count_by p ys
-count-append p [] ys = omega arith
-count-append p (x ∷ xs) ys =
-    let a = count-cons p x (xs ++ ys) in
-    let b = count-cons p x xs in
-    let old = count-append p xs ys in
-    omega (arith, a, b, old)
+count-append p xs ys = sum_by-append (λ x. cond (p x) 1 0) xs ys
 
 -- uses of a user before a place, in the graph
 used-before-is : (w : User) (e : Use) (xs : List TagUse) → is_earlier e (map use_at (filter (λ x. same_user w x.user) xs)) ≡ list_any (λ x. is_use w e.tag x && is_before x.first e.first) xs

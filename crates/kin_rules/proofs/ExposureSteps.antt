@@ -1,10 +1,10 @@
 -- Counting the entries of tags, step by step.
-use Rattle.std.proofs.Common.{◌≡◌, ◌<◌, ◌≤◌, ◌+◌, ◌∙◌, ◌==◌, ◌||◌, ℕ, zero, suc, Bool, true, false, eqb, ltb, nat_lt, List, [], ◌∷◌, ◌++◌, length, get_or, set, take, map, filter, cond, replicate, arith, refl, sym, ap, subst}
+use Rattle.std.proofs.Common.{◌≡◌, ◌<◌, ◌≤◌, ◌+◌, ◌∙◌, ◌==◌, ℕ, zero, suc, Bool, true, false, eqb, ltb, nat_lt, List, [], ◌∷◌, ◌++◌, length, get_or, set, take, map, filter, cond, replicate, arith, refl, sym, ap, subst}
 use Rattle.std.specs.Prelude.{count_by}
-use Rattle.std.specs.List.{list_any, position_or_len, range_with_len}
+use Rattle.std.specs.List.{list_any, range_with_len}
 use Rattle.std.specs.List.Sorted.{IsStrictlySortedBy}
 use Rattle.std.proofs.lemmas.Bool.Decides.{nat_tests}
-use Rattle.std.proofs.lemmas.List.{append-nil, get_or-map, length-map, map-append, map-set, get_or-set_same, get_or-set_other, get_or_default, length-set, take_more}
+use Rattle.std.proofs.lemmas.List.{append-nil, get_or-map, length-map, map-append, map-set, get_or-set_same, get_or-set_other, length-set, take_more}
 use Rattle.std.proofs.lemmas.List.Elements.{filter-append}
 use Rattle.std.proofs.lemmas.List.FromFn.{filter_of_map_range_with_len_more}
 use Rattle.std.proofs.lemmas.List.Sums.{count_by-le-length, count_by_more_no, count_by_more_yes}
@@ -13,7 +13,7 @@ use Rattle.kin_ids.proofs.Same.{same_tag-refl, same_tag-sym}
 use Rattle.kin_rules.specs.declared.exposure_rules.UseK.{UseK}
 use Rattle.kin_rules.specs.declared.numbers.KCount.{KCount}
 use Rattle.kin_rules.specs.ExposureLists.{counted, ks_of, listed}
-use Rattle.kin_rules.specs.Spots.{StandsAt, WouldStandAt}
+use Rattle.kin_rules.specs.Spots.{StandsAt}
 use Rattle.kin_rules.proofs.Ascending.{map-at, map-off, read-map}
 use Rattle.kin_rules.proofs.KeyOrders.{tag_cmp-exact}
 

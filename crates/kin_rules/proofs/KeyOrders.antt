@@ -1,10 +1,7 @@
 -- The orders of users and of tags are exact; places of users.
-use Rattle.std.proofs.Common.{◌≡◌, ◌+◌, ◌∙◌, ℕ, suc, Bool, true, false, List, [], ◌∷◌, cond, arith, refl}
+use Rattle.std.proofs.Common.{◌≡◌, ◌+◌, ℕ, suc, Bool, true, false, List, cond, arith, refl}
 use Rattle.std.specs.Cmp.{Equal-is}
 use Rattle.std.specs.List.{position_or_len}
-use Rattle.std.specs.Ordering.{nat_cmp}
-use Rattle.std.specs.declared.cmp.Ordering.{Ordering}
-use Rattle.std.specs.declared.cmp.Ordering.TheVariants.{Equal}
 use Rattle.std.proofs.lemmas.Cmp.{nat_cmp_total, nat_list_cmp_total, on_total}
 use Rattle.std.proofs.lemmas.List.Recursion.{is_position_or_len}
 use Rattle.kin_ids.specs.declared.ids.User.{User}

@@ -14,12 +14,7 @@ use Rattle.kin_rules.specs.Layers.{LayerRule, LayerNet, layer, inputs_of, AreSha
 use Rattle.kin_rules.specs.LayerTables.{IsTable, ArePlaces, AreRows, AreAllShares, input_at, present_ends}
 use Rattle.kin_rules.specs.Places.{place, found}
 use Rattle.kin_rules.specs.Edges.{places_of, rows_of}
-use Rattle.kin_rules.proofs.Places.{place-lt, map-place}
-
-pub has-get : (us : List User) (i : ℕ) (d : User) → i < length us → has_user us (get_or us i d) ≡ true
-has-get [] i d lt = absurd (omega (arith, lt))
-has-get (u ∷ us) zero d lt = or_left (same_user u u) (has_user us u) (same_user-refl u)
-has-get (u ∷ us) (suc i) d lt = or_right (same_user (get_or us i d) u) (has_user us (get_or us i d)) (has-get us i d (omega (arith, lt)))
+use Rattle.kin_rules.proofs.Places.{place-lt, map-place, has-get}
 
 -- who passes the test of a filter is kept, and who is kept passes it
 pub has-filter : (us ys : List User) (y : User) → has_user (filter (has_user us) ys) y ≡ true → has_user us y ≡ true

@@ -1,7 +1,7 @@
 -- What layers over a view of a whole graph are.
-use Rattle.std.proofs.Common.{◌≡◌, ◌<◌, ◌≤◌, ◌+◌, ◌∙◌, ◌||◌, ◌++◌, ℕ, zero, suc, Bool, true, false, List, [], ◌∷◌, Option, Some, None, All, length, get_or, map, filter, cond, leb, ltb, arith, refl, sym, ap, subst}
+use Rattle.std.proofs.Common.{◌≡◌, ◌<◌, ◌≤◌, ◌+◌, ◌∙◌, ◌||◌, ◌++◌, ℕ, zero, suc, Bool, true, false, List, [], ◌∷◌, Some, length, get_or, map, filter, cond, leb, arith, refl, sym, ap, subst}
 use Rattle.std.specs.List.{slice_get, count_by}
-use Rattle.std.proofs.lemmas.Bool.{or_left, or_right, or_cases}
+use Rattle.std.proofs.lemmas.Bool.{or_left, or_right}
 use Rattle.std.proofs.lemmas.Bool.Decides.{nat_tests}
 use Rattle.std.proofs.lemmas.List.{length-map}
 use Rattle.std.proofs.lemmas.List.Folds.{list_any-append}
@@ -9,14 +9,13 @@ use Rattle.std.proofs.lemmas.Option.{slice_get-get_or}
 use Rattle.kin_ids.specs.declared.ids.User.{User}
 use Rattle.kin_ids.specs.declared.ops.Half.{Half}
 use Rattle.kin_ids.specs.Users.{same_user, has_user}
-use Rattle.kin_ids.specs.Graph.{Graph, Edge, half_in, half_out, ins, outs, vertices}
+use Rattle.kin_ids.specs.Graph.{Graph, Edge, half_in, half_out, vertices}
 use Rattle.kin_ids.specs.Parts.{PartView}
 use Rattle.kin_ids.specs.Wholes.{IsViewOf}
 use Rattle.kin_graph.specs.Views.{AreVertices}
 use Rattle.kin_ids.proofs.Vertices.{has-distinct_onto}
 use Rattle.kin_graph.proofs.Wholes.{whole-vertices}
 use Rattle.kin_rules.specs.declared.pull_rules.Facts.{Facts}
-use Rattle.kin_rules.specs.declared.pull_rules.Input.{Input}
 use Rattle.kin_rules.specs.declared.pull_rules.Side.{Side}
 use Rattle.kin_rules.specs.declared.pull_rules.Side.TheVariants as side
 use Rattle.kin_rules.specs.Layers.{LayerRule, IsLayerRule, AreSameFacts, AreSameInputs, layer, layer_of, inputs_of, facts_of, neighbours, net_of}

@@ -1,29 +1,22 @@
 -- Values by place, read as the values of users.
-use Rattle.std.proofs.Common.{◌≡◌, ◌<◌, ◌∙◌, ◌||◌, ℕ, zero, suc, Bool, true, false, List, [], ◌∷◌, ◌++◌, Option, Some, None, length, get_or, set, map, replicate, if◌then◌else◌, cond, eqb, arith, refl, sym, ap, subst}
+use Rattle.std.proofs.Common.{◌≡◌, ◌<◌, ◌∙◌, ◌||◌, ℕ, zero, suc, Bool, true, false, List, [], ◌∷◌, ◌++◌, Option, Some, None, length, get_or, set, map, replicate, if◌then◌else◌, eqb, arith, refl, sym, ap, subst}
 use Rattle.std.specs.declared.cmp.Ordering.TheVariants.{Less}
 use Rattle.std.specs.List.Sorted.{IsStrictlySortedBy}
-use Rattle.std.proofs.lemmas.Bool.{or_left, or_right, both_ways}
+use Rattle.std.proofs.lemmas.Bool.{both_ways}
 use Rattle.std.proofs.lemmas.Bool.Decides.{nat_tests}
 use Rattle.std.proofs.lemmas.Map.Views.{All-after_first}
 use Rattle.std.proofs.lemmas.Map.Keys.{sorted_tail}
 use Rattle.std.proofs.lemmas.List.{get_or-set_same, get_or-set_other, get_or-map, ext_get_or, length-map}
 use Rattle.std.proofs.lemmas.List.Elements.{All-get_or}
+use Rattle.std.proofs.lemmas.List.Folds.{list_any-append}
+use Rattle.std.proofs.Math.Bool.{or-false}
 use Rattle.kin_ids.specs.declared.ids.User.{User}
 use Rattle.kin_ids.specs.Users.{same_user, has_user, user_cmp}
 use Rattle.kin_ids.proofs.Same.{same_user-true, same_user-refl}
 use Rattle.kin_rules.specs.Kept.{lowered}
 use Rattle.kin_rules.specs.Places.{place}
 use Rattle.kin_rules.specs.Going.{has_place}
-use Rattle.kin_rules.proofs.Places.{place-lt, get-place}
-
--- who isn't one of the users has the place past the last
-pub place-absent : (us : List User) (x : User) → has_user us x ≡ false → place us x ≡ length us
-place-absent [] x h = refl
-place-absent (u ∷ us) x h = here (same_user x u) h (place-absent us x)
-  where
-    here : (b : Bool) → (b || has_user us x) ≡ false → (has_user us x ≡ false → place us x ≡ length us) → cond b 0 (suc (place us x)) ≡ suc (length us)
-    here true h more = absurd cc
-    here false h more = ap suc (more h)
+use Rattle.kin_rules.proofs.Places.{place-lt, place-absent, get-place}
 
 -- a user's place is nobody else's
 pub place-apart : (us : List User) (u x : User) → has_user us u ≡ true → same_user u x ≡ false → place us x ≡ place us u → ⊥
@@ -65,11 +58,6 @@ place-at (y ∷ us) (suc p) d s lt =
     let less = All-get_or (λ (z : User). user_cmp y z ≡ Less) us p d in-rest (All-after_first user_cmp y us s) in
     rw (less-other y (get_or us p d) less) (ap suc (place-at us p d (sorted_tail user_cmp y us s) in-rest))
 
-pub has-at : (us : List User) (p : ℕ) (d : User) → p < length us → has_user us (get_or us p d) ≡ true
-has-at [] p d lt = absurd (omega (arith, lt))
-has-at (y ∷ us) zero d lt = or_left (same_user y y) (has_user us y) (same_user-refl y)
-has-at (y ∷ us) (suc p) d lt = or_right (same_user (get_or us p d) y) (has_user us (get_or us p d)) (has-at us p d (omega (arith, lt)))
-
 -- values by place are the users' values, in order
 pub values-mapped : (us : List User) (vs : List (Option ℕ)) (f : User → Option ℕ) → IsStrictlySortedBy user_cmp us → length vs ≡ length us
     → ((x : User) → get_or vs (place us x) None ≡ f x) → vs ≡ map f us
@@ -83,13 +71,4 @@ values-mapped us vs f s fits is = ext_get_or None vs (map f us) (fits ∙ sym (l
 
 -- places in a list
 pub has_place-append : (ps : List ℕ) (q p : ℕ) → has_place (ps ++ q ∷ []) p ≡ (has_place ps p || eqb p q)
-has_place-append [] q p = last (eqb p q)
-  where
-    last : (b : Bool) → (b || false) ≡ b
-    last true = refl
-    last false = refl
-has_place-append (r ∷ ps) q p = here (eqb p r) (has_place-append ps q p)
-  where
-    here : (b : Bool) → has_place (ps ++ q ∷ []) p ≡ (has_place ps p || eqb p q) → (b || has_place (ps ++ q ∷ []) p) ≡ ((b || has_place ps p) || eqb p q)
-    here true e = refl
-    here false e = e
+has_place-append ps q p = list_any-append (eqb p) ps (q ∷ []) ∙ ap (λ (b : Bool). has_place ps p || b) (or-false (eqb p q))

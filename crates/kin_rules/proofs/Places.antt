@@ -5,6 +5,7 @@ use Rattle.kin_ids.specs.Users.{same_user, has_user, user_cmp}
 use Rattle.kin_ids.proofs.Same.{same_user-true, same_user-refl}
 use Rattle.std.proofs.lemmas.Bool.Decides.{nat_tests}
 use Rattle.std.proofs.lemmas.List.{length-map, map_push, take_more}
+use Rattle.std.proofs.lemmas.List.Folds.{list_any_at}
 use Rattle.std.proofs.lemmas.Map.Keys.{sorted_tail}
 use Rattle.std.proofs.lemmas.Map.Views.{All-after_first}
 use Rattle.std.specs.List.Sorted.{IsStrictlySortedBy}
@@ -19,6 +20,9 @@ place-lt (u ∷ us) x h = here (place-lt us x) (same_user x u) h
     here : (has_user us x ≡ true → place us x < length us) → (b : Bool) → (b || has_user us x) ≡ true → cond b 0 (suc (place us x)) < suc (length us)
     here old true h = omega arith
     here old false h = let k = old h in omega (arith, k)
+
+pub has-get : (us : List User) (i : ℕ) (d : User) → i < length us → has_user us (get_or us i d) ≡ true
+has-get us i d lt = list_any_at (same_user (get_or us i d)) us i d lt (same_user-refl (get_or us i d))
 
 pub get-place : (us : List User) (x : User) (d : User) → has_user us x ≡ true → get_or us (place us x) d ≡ x
 get-place [] x d h = cc
@@ -36,18 +40,6 @@ map-place f (u ∷ us) x d h = here (map-place f us x d) (same_user x u) refl h
     here : (has_user us x ≡ true → get_or (map f us) (place us x) d ≡ f x) → (b : Bool) → same_user x u ≡ b → (b || has_user us x) ≡ true → get_or (map f (u ∷ us)) (cond b 0 (suc (place us x))) d ≡ f x
     here old true e h = ap f (sym (same_user-true x u e))
     here old false e h = old h
-
-pub has-push : (us : List User) (y x : User) → has_user (us ++ y ∷ []) x ≡ (has_user us x || same_user x y)
-has-push [] y x = last (same_user x y)
-  where
-    last : (b : Bool) → (b || false) ≡ b
-    last true = refl
-    last false = refl
-has-push (u ∷ us) y x = here (same_user x u) (has-push us y x)
-  where
-    here : (b : Bool) → has_user (us ++ y ∷ []) x ≡ (has_user us x || same_user x y) → (b || has_user (us ++ y ∷ []) x) ≡ ((b || has_user us x) || same_user x y)
-    here true e = refl
-    here false e = e
 
 pub place-push : (us : List User) (y x : User) → has_user us x ≡ true → place (us ++ y ∷ []) x ≡ place us x
 place-push [] y x h = cc
@@ -81,20 +73,21 @@ place-is (u ∷ us) x = here (eqb x.0 u.0) (same_user x u) (same-number x u) (pl
     here true false e old = cc
     here false true e old = cc
 
+-- who isn't one of the users has the place past the last
+pub place-absent : (us : List User) (x : User) → has_user us x ≡ false → place us x ≡ length us
+place-absent [] x h = refl
+place-absent (u ∷ us) x h = here (same_user x u) h (place-absent us x)
+  where
+    here : (b : Bool) → (b || has_user us x) ≡ false → (has_user us x ≡ false → place us x ≡ length us) → cond b 0 (suc (place us x)) ≡ suc (length us)
+    here true h more = absurd cc
+    here false h more = ap suc (more h)
+
 pub has-is : (us : List User) (x : User) → ltb (place us x) (length us) ≡ has_user us x
 has-is us x = here (has_user us x) refl
   where
-    none : (vs : List User) → has_user vs x ≡ false → place vs x ≡ length vs
-    none [] h = refl
-    none (v ∷ vs) h = step (same_user x v) (none vs) h
-      where
-        step : (b : Bool) → (has_user vs x ≡ false → place vs x ≡ length vs) → (b || has_user vs x) ≡ false → cond b 0 (suc (place vs x)) ≡ suc (length vs)
-        step true old h = absurd cc
-        step false old h = ap suc (old h)
-
     here : (b : Bool) → has_user us x ≡ b → ltb (place us x) (length us) ≡ b
     here true h = let k = place-lt us x h in grind (arith, nat_tests, k)
-    here false h = let k = none us h in grind (arith, nat_tests, k)
+    here false h = let k = place-absent us x h in grind (arith, nat_tests, k)
 
 pub found-is : (us : List User) (x : User) (ks : List ℕ) → ks ≡ map (λ (u : User). u.0) us → position (eqb x.0) ks ≡ found us x
 found-is us x ks e = ap (λ (ns : List ℕ). position (eqb x.0) ns) e ∙ ap (λ (n : ℕ). cond (ltb n (length (map (λ (u : User). u.0) us))) (Some n) None) (place-is us x)

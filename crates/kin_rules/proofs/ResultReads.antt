@@ -1,20 +1,17 @@
 -- What is read in a result, and the result of the empty graph.
 use Rattle.std.proofs.Common.{◌≡◌, ◌<◌, ◌≤◌, ◌∙◌, ℕ, zero, suc, Bool, true, false, nat_lt, List, [], ◌∷◌, length, get_or, replicate, cond, Option, None, Some, All, arith, refl, sym, ap, subst}
 use Rattle.std.specs.Prelude.{slice_get}
-use Rattle.std.specs.List.{list_any, position_or_len}
 use Rattle.std.specs.List.Sorted.{IsStrictlySortedBy}
 use Rattle.std.specs.declared.cmp.Ordering.{Ordering}
 use Rattle.std.proofs.lemmas.Bool.Decides.{nat_tests}
 use Rattle.std.proofs.lemmas.List.{length-replicate, get_or-replicate}
 use Rattle.kin_ids.specs.declared.ids.User.{User}
 use Rattle.kin_ids.specs.Graph.{empty_graph}
-use Rattle.kin_ids.specs.Users.{tag_cmp, same_tag}
+use Rattle.kin_ids.specs.Users.{same_tag}
 use Rattle.kin_rules.specs.declared.numbers.Num.{Num}
 use Rattle.kin_rules.specs.declared.numbers.Num.TheVariants as num
-use Rattle.kin_rules.specs.declared.numbers.KCount.{KCount}
 use Rattle.kin_rules.specs.Nets.{hops_of, close_of}
 use Rattle.kin_rules.specs.Results.{ColumnView, ResultView, IsTabular, IsResult, AreExposures, no_column, first_result, value_in, hops_in, close_in, from_landmark, has_tag, tag_place, number_in, number_of}
-use Rattle.kin_rules.specs.Spots.{StandsAt}
 use Rattle.kin_rules.proofs.Ascending.{read-none}
 use Rattle.kin_rules.proofs.Instances.{hops-least, close-least}
 use Rattle.kin_rules.proofs.KeyOrders.{tag_cmp-exact}

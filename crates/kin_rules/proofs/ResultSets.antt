@@ -1,5 +1,5 @@
 -- What a result is after a change of its columns.
-use Rattle.std.proofs.Common.{◌≡◌, ◌<◌, ◌≤◌, ◌+◌, ◌-◌, ◌∙◌, ◌==◌, ◌&&◌, ◌||◌, ℕ, zero, suc, Bool, true, false, eqb, ltb, nat_lt, List, [], ◌∷◌, length, get_or, set, map, cond, Option, None, All, arith, refl, sym, ap, subst}
+use Rattle.std.proofs.Common.{◌≡◌, ◌<◌, ◌≤◌, ◌+◌, ◌∙◌, ◌==◌, ◌&&◌, ◌||◌, ℕ, zero, suc, Bool, true, false, eqb, ltb, nat_lt, List, [], ◌∷◌, length, get_or, set, map, cond, Option, None, All, arith, refl, sym, ap, subst}
 use Rattle.std.specs.List.{AllByRecursion, insert, position_or_len, remove}
 use Rattle.std.specs.List.Sorted.{IsStrictlySortedBy}
 use Rattle.std.specs.declared.cmp.Ordering.{Ordering}
@@ -14,7 +14,7 @@ use Rattle.kin_rules.specs.declared.numbers.Num.{Num}
 use Rattle.kin_rules.specs.declared.numbers.Num.TheVariants as num
 use Rattle.kin_rules.specs.declared.numbers.KCount.{KCount}
 use Rattle.kin_rules.specs.Places.{place}
-use Rattle.kin_rules.specs.Results.{ColumnView, ResultView, IsTabular, AreExposures, has_tag, tag_place, number_in, tag_users_in, expo_in, value_in}
+use Rattle.kin_rules.specs.Results.{ColumnView, ResultView, IsTabular, AreExposures, has_tag, tag_place, numbers_in, number_in, tag_users_in, expo_in, value_in}
 use Rattle.kin_rules.specs.ResultChanges.{AddsUser, SetsNumber, SetsTag, SetsExpo, same_num}
 use Rattle.kin_rules.specs.Spots.{StandsAt, WouldStandAt}
 use Rattle.kin_rules.proofs.Ascending.{read-insert, read-set, read-remove, one-insert, one-remove}
@@ -33,42 +33,42 @@ number-set us ns u i n at long x =
     ap (λ (j : ℕ). get_or (set ns i n) j 0) (place-position us x) ∙ ap (λ (j : ℕ). get_or (set ns j n) (position_or_len (same_user x) us) 0) (sym at.place)
     ∙ read-set user_cmp-exact us ns u n x 0 long at.one ∙ ap (λ (j : ℕ). cond (same_user x u) n (get_or ns j 0)) (sym (place-position us x))
 
-module _ (r : ResultView) (t : IsTabular r) (u : User) (i n : ℕ) (at : StandsAt user_cmp r.users u i) where
-  pub sets-in : SetsNumber r num.In u n (record r { ins = set r.ins i n })
-  sets-in = record { number = number; rest = refl }
-    where
-      number : (rule : Num) (x : User) → number_in (record r { ins = set r.ins i n }) rule x ≡ cond (same_num rule num.In && same_user x u) n (number_in r rule x)
-      number num.In x = number-set r.users r.ins u i n at t.ins x
-      number num.Out x = refl
-      number num.Said x = refl
-      number num.Rank x = refl
+-- the numbers under a rule where that of the user at i under one of them is n
+abbrev numbers_set : ResultView → Num → ℕ → ℕ → Num → List ℕ
+numbers_set r which i n rule = cond (same_num rule which) (set (numbers_in r rule) i n) (numbers_in r rule)
 
-  pub sets-out : SetsNumber r num.Out u n (record r { outs = set r.outs i n })
-  sets-out = record { number = number; rest = refl }
-    where
-      number : (rule : Num) (x : User) → number_in (record r { outs = set r.outs i n }) rule x ≡ cond (same_num rule num.Out && same_user x u) n (number_in r rule x)
-      number num.In x = refl
-      number num.Out x = number-set r.users r.outs u i n at t.outs x
-      number num.Said x = refl
-      number num.Rank x = refl
+abbrev with_number : ResultView → Num → ℕ → ℕ → ResultView
+with_number r which i n = record r {
+  ins = numbers_set r which i n num.In;
+  outs = numbers_set r which i n num.Out;
+  said = numbers_set r which i n num.Said;
+  ranks = numbers_set r which i n num.Rank;
+}
 
-  pub sets-said : SetsNumber r num.Said u n (record r { said = set r.said i n })
-  sets-said = record { number = number; rest = refl }
-    where
-      number : (rule : Num) (x : User) → number_in (record r { said = set r.said i n }) rule x ≡ cond (same_num rule num.Said && same_user x u) n (number_in r rule x)
-      number num.In x = refl
-      number num.Out x = refl
-      number num.Said x = number-set r.users r.said u i n at t.said x
-      number num.Rank x = refl
+numbers-long : (r : ResultView) → IsTabular r → (rule : Num) → length (numbers_in r rule) ≡ length r.users
+numbers-long r t num.In = t.ins
+numbers-long r t num.Out = t.outs
+numbers-long r t num.Said = t.said
+numbers-long r t num.Rank = t.ranks
 
-  pub sets-rank : SetsNumber r num.Rank u n (record r { ranks = set r.ranks i n })
-  sets-rank = record { number = number; rest = refl }
-    where
-      number : (rule : Num) (x : User) → number_in (record r { ranks = set r.ranks i n }) rule x ≡ cond (same_num rule num.Rank && same_user x u) n (number_in r rule x)
-      number num.In x = refl
-      number num.Out x = refl
-      number num.Said x = refl
-      number num.Rank x = number-set r.users r.ranks u i n at t.ranks x
+numbers-with : (r : ResultView) (which : Num) (i n : ℕ) (rule : Num) → numbers_in (with_number r which i n) rule ≡ numbers_set r which i n rule
+numbers-with r which i n num.In = refl
+numbers-with r which i n num.Out = refl
+numbers-with r which i n num.Said = refl
+numbers-with r which i n num.Rank = refl
+
+pub sets-number : (r s : ResultView) → r ≡ s → IsTabular r → (us : List User) → us ≡ r.users → (u : User) (i n : ℕ) → StandsAt user_cmp us u i
+    → (rule which : Num) → which ≡ rule → SetsNumber s which u n (with_number r rule i n)
+sets-number r s same t us are u i n at rule which is =
+    subst (λ (m : Num). SetsNumber s m u n (with_number r rule i n)) (sym is)
+    (subst (λ (old : ResultView). SetsNumber old rule u n (with_number r rule i n)) same (record { number = number; rest = refl }))
+  where
+    number : (other : Num) (x : User) → number_in (with_number r rule i n) other x ≡ cond (same_num other rule && same_user x u) n (number_in r other x)
+    number other x = ap (λ (ns : List ℕ). get_or ns (place r.users x) 0) (numbers-with r rule i n other) ∙ here (same_num other rule)
+      where
+        here : (b : Bool) → get_or (cond b (set (numbers_in r other) i n) (numbers_in r other)) (place r.users x) 0 ≡ cond (b && same_user x u) n (number_in r other x)
+        here true = number-set r.users (numbers_in r other) u i n (subst (λ (vs : List User). StandsAt user_cmp vs u i) are at) (numbers-long r t other) x
+        here false = refl
 
 -- ---- tags
 
@@ -340,9 +340,6 @@ pub within-all : (cs : List Column) (n i : ℕ) → AreOf n (columns_of cs) → 
 within-all cs n i all le k d lt = let long = column-long cs n k d all lt in omega (arith, long, le)
 
 -- ---- of what the result was
-
-pub number-moved : (r s new : ResultView) (rule which : Num) (u : User) (n : ℕ) → r ≡ s → which ≡ rule → SetsNumber r rule u n new → SetsNumber s which u n new
-number-moved r s new rule which u n e w h = subst (λ (x : Num). SetsNumber s x u n new) (sym w) (subst (λ (x : ResultView). SetsNumber x rule u n new) e h)
 
 pub tag-moved : (r s new : ResultView) (t : List ℕ) (n m : ℕ) → r ≡ s → n ≡ m → SetsTag r t m new → SetsTag s t n new
 tag-moved r s new t n m e w h = subst (λ (x : ℕ). SetsTag s t x new) (sym w) (subst (λ (x : ResultView). SetsTag x t m new) e h)

@@ -24,8 +24,8 @@ use Rattle.kin_rules.specs.Going.{has_place, value_of, list_at, IsListed, Going}
 use Rattle.kin_rules.proofs.WalkCosts.{under-trans}
 use Rattle.kin_rules.proofs.Kept.{kept-few, lowered-here}
 use Rattle.kin_rules.proofs.Spreads.{spread-alike, spread-weaker, offer-spreads, rest-spreads, quiet-least}
-use Rattle.kin_rules.proofs.Places.{place-lt}
-use Rattle.kin_rules.proofs.PlacedValues.{place-apart, get_or-none, value-set, place-at, has-at, has_place-append}
+use Rattle.kin_rules.proofs.Places.{place-lt, has-get}
+use Rattle.kin_rules.proofs.PlacedValues.{place-apart, get_or-none, value-set, place-at, has_place-append}
 
 under-refl : (o : Option ℕ) → Under o o
 under-refl None = tt
@@ -311,7 +311,7 @@ module _ (net : Net) (law : IsRule net.along net.most) (whole : IsWhole net) (so
           let lt : p < length net.users = omega (arith, inside, f) in
           subst (λ (q : ℕ). Phase net c (q ∷ rest) t → value_at t q ≡ Some c → Phase net c rest (pushed c (net.along kind.Mention c) (get_or mentions q []) (pushed c (net.along kind.Follow c) (get_or follows q []) t)))
           (place-at net.users p zero-user sorted lt)
-          (λ ph has. user-turned rest (get_or net.users p zero-user) t (has-at net.users p zero-user lt) ph has) phase is
+          (λ ph has. user-turned rest (get_or net.users p zero-user) t (has-get net.users p zero-user lt) ph has) phase is
 
   pub turned_all-phase : (ps : List ℕ) (t : Tally) → Phase net c ps t → Phase net c [] (turned_all follows mentions offers ps t)
   turned_all-phase [] t p = p

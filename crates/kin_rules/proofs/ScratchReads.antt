@@ -1,5 +1,5 @@
 -- What an evaluation makes of a view of a whole graph is its result.
-use Rattle.std.proofs.Common.{◌≡◌, ◌<◌, ◌≤◌, ◌∙◌, ◌==◌, ◌&&◌, ◌+◌, eqb, ℕ, zero, suc, Bool, true, false, not, nat_lt, List, [], ◌∷◌, ◌++◌, length, take, get_or, cond, map, filter, Option, None, Some, All, arith, refl, sym, ap, subst, zero-add}
+use Rattle.std.proofs.Common.{◌≡◌, ◌<◌, ◌∙◌, ◌==◌, ◌&&◌, ◌+◌, eqb, ℕ, zero, suc, Bool, true, false, not, nat_lt, List, [], ◌∷◌, ◌++◌, length, take, get_or, cond, map, filter, Option, None, All, arith, refl, sym, ap, subst, zero-add}
 use Rattle.std.specs.Prelude.{slice_get, count_by}
 use Rattle.std.specs.List.{AllByRecursion, range_with_len}
 use Rattle.std.specs.Ordering.{nat_cmp}
@@ -37,7 +37,7 @@ use Rattle.kin_rules.specs.Places.{place}
 use Rattle.kin_rules.specs.Ranks.{rank}
 use Rattle.kin_rules.specs.Results.{ColumnView, ResultView, IsResult, AreExposures, value_in, from_landmark, has_tag, tag_place, number_in, number_of}
 use Rattle.kin_rules.specs.Scratches.{AreLists, in_seen, out_seen, users_seen, column_by}
-use Rattle.kin_rules.proofs.Ascending.{read-none, read-map}
+use Rattle.kin_rules.proofs.Ascending.{read-map}
 use Rattle.kin_rules.proofs.ColumnReads.{past-none}
 use Rattle.kin_rules.proofs.EdgeRows.{least-outside}
 use Rattle.kin_rules.proofs.KeyOrders.{tag_cmp-exact}
@@ -217,39 +217,41 @@ counted-ascend ks n = record {
   some = all-passing (λ (c : KCount). nat_lt 0 c.users) (λ (c : KCount). 0 < c.users) (λ c h. grind (arith, nat_tests, h)) (map (λ (k : ℕ). let c : KCount = record { k = k; users = count_by (λ x. x == k) ks } in c) (range_with_len 0 n));
 }
 
--- one column more
-pub columns-step : (F : Graph → User → ColumnView) (E : Graph → Type 0) (n : ℕ) (cs new : List Column) (c : Column) (ls : List User) (i : ℕ) (d : User) → i < length ls → new ≡ cs ++ c ∷ []
-    → length c.values.items ≡ n → ((g : Graph) → E g → column_of c ≡ F g (get_or ls i d))
-    → (length cs ≡ i) × AreOf n (columns_of cs) × ((g : Graph) → E g → columns_of cs ≡ map (F g) (take i ls))
-    → (length new ≡ i + 1) × AreOf n (columns_of new) × ((g : Graph) → E g → columns_of new ≡ map (F g) (take (i + 1) ls))
-columns-step F E n cs new c ls i d lt is long each was = (
+abbrev column : List (Option ℕ) → List (User × ℕ) → ColumnView
+column vs es = record { values = vs; others = es }
+
+-- one column more: the values of one more landmark for the users, and no others
+pub columns-step : (f : Graph → User → User → Option ℕ) (us : List User) (E : Graph → Type 0) (cs new : List Column) (c : Column) (ls : List User) (i : ℕ) (d : User)
+    → i < length ls → new ≡ cs ++ c ∷ [] → length c.values.items ≡ length us → ((g : Graph) → E g → c.values.items ≡ map (f g (get_or ls i d)) us) → c.others.entries ≡ []
+    → (length cs ≡ i) × AreOf (length us) (columns_of cs) × ((g : Graph) → E g → columns_of cs ≡ map (λ l. column_by (f g l) us) (take i ls))
+    → (length new ≡ i + 1) × AreOf (length us) (columns_of new) × ((g : Graph) → E g → columns_of new ≡ map (λ l. column_by (f g l) us) (take (i + 1) ls))
+columns-step f us E cs new c ls i d lt is long each none was = (
   ap length is ∙ length-append cs (c ∷ []) ∙ ap (λ (m : ℕ). m + 1) was.0,
-  subst (λ (l : List Column). AreOf n (columns_of l)) (sym is) (all-more cs was.1),
-  λ g e. ap columns_of is ∙ map_push column_of cs c ∙ ap (λ (l : List ColumnView). l ++ column_of c ∷ []) (was.2 g e) ∙ ap (λ (v : ColumnView). map (F g) (take i ls) ++ v ∷ []) (each g e)
-      ∙ sym (ap (map (F g)) (take_more ls i d lt) ∙ map_push (F g) (take i ls) (get_or ls i d)),
+  subst (λ (l : List Column). AreOf (length us) (columns_of l)) (sym is) (all-more cs was.1),
+  λ g e. ap columns_of is ∙ map_push column_of cs c ∙ ap (λ (l : List ColumnView). l ++ column_of c ∷ []) (was.2 g e)
+      ∙ ap (λ (v : ColumnView). map (λ (l : User). column_by (f g l) us) (take i ls) ++ v ∷ []) (same g e)
+      ∙ sym (ap (map (λ (l : User). column_by (f g l) us)) (take_more ls i d lt) ∙ map_push (λ (l : User). column_by (f g l) us) (take i ls) (get_or ls i d)),
 )
   where
-    all-more : (xs : List Column) → AreOf n (columns_of xs) → AreOf n (columns_of (xs ++ c ∷ []))
+    same : (g : Graph) → E g → column_of c ≡ column_by (f g (get_or ls i d)) us
+    same g e = ap (λ (vs : List (Option ℕ)). column vs c.others.entries) (each g e) ∙ ap (column (map (f g (get_or ls i d)) us)) none
+
+    all-more : (ys : List Column) → AreOf (length us) (columns_of ys) → AreOf (length us) (columns_of (ys ++ c ∷ []))
     all-more [] all = λ k e less. last k e less
       where
-        last : (k : ℕ) (e : ColumnView) → k < 1 → length (get_or (column_of c ∷ []) k e).values ≡ n
+        last : (k : ℕ) (e : ColumnView) → k < 1 → length (get_or (column_of c ∷ []) k e).values ≡ length us
         last zero e less = long
         last (suc k) e less = absurd (omega (arith, less))
-    all-more (x ∷ xs) all = cons (all-more xs (λ k e less. all (suc k) e (omega (arith, less))))
+    all-more (y ∷ ys) all = cons (all-more ys (λ k e less. all (suc k) e (omega (arith, less))))
       where
-        cons : AreOf n (columns_of (xs ++ c ∷ [])) → (k : ℕ) (e : ColumnView) → k < length (columns_of (x ∷ xs ++ c ∷ [])) → length (get_or (columns_of (x ∷ xs ++ c ∷ [])) k e).values ≡ n
+        cons : AreOf (length us) (columns_of (ys ++ c ∷ [])) → (k : ℕ) (e : ColumnView) → k < length (columns_of (y ∷ ys ++ c ∷ []))
+            → length (get_or (columns_of (y ∷ ys ++ c ∷ [])) k e).values ≡ length us
         cons rest zero e less = all 0 e (omega arith)
         cons rest (suc k) e less = rest k e (omega (arith, less))
 
 pub following-are : (v : PartView) (us : List User) → map (λ (f : Facts). f.following) (map (facts_seen v) us) ≡ map (out_seen v) us
 following-are v [] = refl
 following-are v (u ∷ us) = ap (λ (ns : List ℕ). out_seen v u ∷ ns) (following-are v us)
-
-abbrev column : List (Option ℕ) → List (User × ℕ) → ColumnView
-column vs es = record { values = vs; others = es }
-
-pub column-is : (vs ws : List (Option ℕ)) (es : List (User × ℕ)) → vs ≡ ws → es ≡ [] → column vs es ≡ column ws []
-column-is vs ws es v e = ap (λ (l : List (Option ℕ)). column l es) v ∙ ap (λ (l : List (User × ℕ)). column ws l) e
 
 -- each list of exposures that was counted ascends
 pub lists-are : (es : List UseK) (f : List ℕ → ℕ) (ts : List (List ℕ)) (expos : List (List KCount)) → expos ≡ map (λ t. counted (ks_of es t) (f t)) ts → AreLists ts expos

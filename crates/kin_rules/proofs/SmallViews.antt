@@ -1,5 +1,5 @@
 -- A view of a whole graph has no more vertices than the graph.
-use Rattle.std.proofs.Common.{◌≡◌, ◌≤◌, ◌^◌, ◌∙◌, ◌||◌, Bool, true, false, List, [], ◌∷◌, length, arith, refl, sym, subst}
+use Rattle.std.proofs.Common.{◌≡◌, ◌≤◌, ◌∙◌, true, false, List, [], ◌∷◌, length, arith, refl, sym}
 use Rattle.std.specs.List.{AllByRecursion}
 use Rattle.std.specs.List.Sorted.{IsStrictlySortedBy}
 use Rattle.std.specs.declared.cmp.Ordering.TheVariants.{Less}
@@ -10,7 +10,6 @@ use Rattle.kin_ids.specs.Users.{same_user, has_user, user_cmp}
 use Rattle.kin_ids.specs.Graph.{vertices}
 use Rattle.kin_ids.specs.Follows.{IsOnce}
 use Rattle.kin_ids.proofs.Same.{same_user-refl}
-use Rattle.kin_graph.specs.Views.{AreVertices}
 use Rattle.kin_graph.proofs.Wholes.{whole-vertices}
 use Rattle.kin_rules.specs.Edges.{FewIsSmall}
 use Rattle.kin_rules.specs.Kept.{Within}

@@ -1,8 +1,7 @@
 -- The order of top lists.
-use Rattle.std.proofs.Common.{◌≡◌, ℕ, List, refl, ap₂, sym}
-use Rattle.std.specs.Ordering.{nat_cmp, ordering_then}
-use Rattle.std.specs.declared.cmp.Ordering.{Ordering}
-use Rattle.std.specs.declared.cmp.Ordering.TheVariants.{Less, Equal, Greater}
+use Rattle.std.proofs.Common.{◌≡◌, ℕ, List, ap₂, sym}
+use Rattle.std.specs.Ordering.{nat_cmp}
+use Rattle.std.specs.declared.cmp.Ordering.TheVariants.{Equal}
 use Rattle.std.specs.Cmp.{Equal-is}
 use Rattle.std.proofs.lemmas.Cmp.{nat_cmp_total, nat_list_cmp_total, on_total, then_total, back_total}
 use Rattle.std.proofs.lemmas.Map.Lookups.{exact_unsigned}
@@ -12,12 +11,7 @@ use Rattle.kin_ids.proofs.Same.{same_user-true, same_tag-true}
 use Rattle.kin_rules.specs.declared.numbers.UserNumber.{UserNumber}
 use Rattle.kin_rules.specs.declared.numbers.TagNumber.{TagNumber}
 use Rattle.kin_rules.specs.Top.{user_order, tag_order, UsersAreOrdered, TagsAreOrdered}
-use Rattle.kin_rules.proofs.Orders.{IsExact, is-ordering}
-
-both-tie : (r s : Ordering) → ordering_then r s ≡ Equal → (r ≡ Equal) × (s ≡ Equal)
-both-tie Less s h = absurd cc
-both-tie Equal s h = (refl, h)
-both-tie Greater s h = absurd cc
+use Rattle.kin_rules.proofs.Orders.{IsExact, is-ordering, both-tie}
 
 pub users-exact : IsExact user_order
 users-exact = record {

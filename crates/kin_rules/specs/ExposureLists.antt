@@ -1,5 +1,5 @@
 -- How many entries of a tag have which number.
-use Rattle.std.specs.Prelude.{◌==◌, ℕ, nat_lt, List, count_by, filter, length, map, slice_index}
+use Rattle.std.specs.Prelude.{◌==◌, ◌+◌, ℕ, nat_lt, List, count_by, filter, length, map, slice_index, slice_set, if◌then◌else◌}
 use Rattle.std.specs.List.{range_with_len}
 use Rattle.kin_ids.specs.Users.{same_tag}
 use Rattle.kin_rules.specs.declared.exposure_rules.UseK.{UseK}
@@ -12,6 +12,10 @@ ks_of entries t = map (λ e. e.k) (filter (λ e. same_tag t e.tag) entries)
 -- which numbers below n these are, and how often
 abbrev pub counted : List ℕ → ℕ → List KCount
 counted ks n = filter (λ c. nat_lt 0 c.users) (map (λ k. record { k = k; users = count_by (λ x. x == k) ks }) (range_with_len 0 n))
+
+-- one more at a place, where there is such a place
+abbrev pub counted_one : List ℕ → ℕ → List ℕ
+counted_one counts k = if nat_lt k (length counts) then slice_set counts k (slice_index counts k + 1) else counts
 
 -- the counts that aren't 0, each with its place
 abbrev pub listed : List ℕ → List KCount

@@ -1,9 +1,8 @@
 -- Exposure is a rule of layers.
 use Rattle.std.proofs.Common.{◌≡◌, ◌+◌, ◌∙◌, ◌&&◌, nat_eq, ℕ, Bool, true, List, [], ◌∷◌, map, cond, refl, sym, ap, ap₂, arith, eq-eqb}
 use Rattle.std.specs.Cmp.Lexicographic.{pointwise, same_text, texts_ties}
-use Rattle.std.specs.Ordering.{nat_cmp, ordering_then}
-use Rattle.std.specs.declared.cmp.Ordering.{Ordering}
-use Rattle.std.specs.declared.cmp.Ordering.TheVariants.{Less, Equal, Greater}
+use Rattle.std.specs.Ordering.{nat_cmp}
+use Rattle.std.specs.declared.cmp.Ordering.TheVariants.{Equal}
 use Rattle.std.specs.Cmp.{Equal-is}
 use Rattle.std.specs.List.Sorted.{IsPermutation}
 use Rattle.std.proofs.lemmas.List.Sums.{sum_by-cons}
@@ -21,14 +20,9 @@ use Rattle.kin_rules.specs.declared.pull_rules.Input.{Input}
 use Rattle.kin_rules.specs.Layers.{IsLayerRule, AreAlikeInputs, AreSameInputs}
 use Rattle.kin_rules.specs.ExposureRule.{is_earlier, earlier, use_k, use_k_order, same_place, same_uses, exposure_rule}
 use Rattle.kin_rules.specs.Top.{in_order}
-use Rattle.kin_rules.specs.Orderings.{IsExact, alike-in-order}
+use Rattle.kin_rules.specs.Orderings.{IsExact, alike-in-order, both-tie}
 
 -- entries that tie are one
-both-tie : (r s : Ordering) → ordering_then r s ≡ Equal → (r ≡ Equal) × (s ≡ Equal)
-both-tie Less s h = absurd cc
-both-tie Equal s h = (refl, h)
-both-tie Greater s h = absurd cc
-
 pub entries-exact : IsExact use_k_order
 entries-exact = record {
   total = then_total (on_total (λ (e : UseK). e.tag) nat_list_cmp_total) (on_total (λ (e : UseK). e.k) nat_cmp_total);

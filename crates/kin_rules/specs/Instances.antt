@@ -3,6 +3,8 @@ use Rattle.std.specs.Prelude.{ℕ, ◌+◌, Bool, true, false, Option, Some, Non
 use Rattle.kin_ids.specs.declared.ids.User.{User}
 use Rattle.kin_rules.specs.declared.kinds.EdgeKind.{EdgeKind}
 use Rattle.kin_rules.specs.declared.kinds.EdgeKind.TheVariants as kind
+use Rattle.kin_rules.specs.declared.push_rules.Distance.{Distance}
+use Rattle.kin_rules.specs.declared.push_rules.Distance.TheVariants as distance
 use Rattle.kin_rules.specs.Walks.{Rule}
 
 -- a follow edge counts one, and mention edges aren't used
@@ -20,6 +22,10 @@ hops_rule landmark = record { along = hops; mark = landmark; most = 1 }
 
 abbrev pub close_rule : User → Rule
 close_rule landmark = record { along = close; mark = landmark; most = 3 }
+
+abbrev pub distance_rule : Distance → User → Rule
+distance_rule distance.Hops landmark = hops_rule landmark
+distance_rule distance.Close landmark = close_rule landmark
 
 abbrev pub is_follow : EdgeKind → Bool
 is_follow kind.Follow = true

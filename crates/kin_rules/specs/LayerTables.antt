@@ -1,5 +1,5 @@
 -- Layers over users that are numbered densely.
-use Rattle.std.specs.Prelude.{◌≡◌, ◌<◌, ◌&&◌, ℕ, nat_le, true, List, [], map, filter, get_or, length, count_by, Option, Some, None, All, slice_get, if◌then◌else◌}
+use Rattle.std.specs.Prelude.{◌≡◌, ◌<◌, ◌+◌, ◌&&◌, ℕ, nat_le, true, List, [], map, filter, get_or, length, count_by, Option, Some, None, All, slice_get, if◌then◌else◌}
 use Rattle.kin_ids.specs.declared.ids.User.{User}
 use Rattle.kin_ids.specs.declared.ops.Half.{Half}
 use Rattle.kin_ids.specs.Users.{has_user}
@@ -48,6 +48,10 @@ net_within us s v = record { inputs = λ u. filter (has_user us) (neighbours_see
 abbrev pub input_at : {V : Type 0} → Facts → V → List Facts → List V → ℕ → Input V
 input_at df d facts row i = record { facts = get_or facts i df; value = get_or row i d }
 
+-- what the rule makes of own facts and of the inputs at these places
+abbrev pub IsNextAt : {V : Type 0} → LayerRule V → List Facts → List V → Facts → List ℕ → V → Type 0
+IsNextAt {V} r facts row own ends v = (df : Facts) (d : V) → v ≡ r.next own (map (input_at df d facts row) ends)
+
 -- the inputs of each of these users are among them
 abbrev pub IsClosed : List User → (User → List User) → Type 0
 IsClosed us inputs = (x y : User) → has_user us x ≡ true → has_user (inputs x) y ≡ true → has_user us y ≡ true
@@ -57,6 +61,11 @@ pub record IsTable (net : LayerNet) (users : List User) (facts : List Facts) (ro
   pub facts_are : facts ≡ map net.facts users
   pub rows_are : rows ≡ map (λ x. map (place users) (net.inputs x)) users
   pub closed : IsClosed users net.inputs
+
+-- a row of a layer, and the one above it
+abbrev pub IsRowAbove : {V : Type 0} → LayerRule V → List Facts → List (List ℕ) → List V → List V → Type 0
+IsRowAbove r facts ends row above = (net : LayerNet) (users : List User) (j : ℕ) → IsTable net users facts ends
+    → row ≡ map (layer r net j) users → above ≡ map (layer r net (j + 1)) users
 
 -- places below n
 abbrev pub ArePlaces : ℕ → List (List ℕ) → Type 0

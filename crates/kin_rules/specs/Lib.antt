@@ -27,6 +27,7 @@ pub mod ExposureEntries
 pub mod Results
 pub mod ResultChanges
 pub mod Columns
+pub mod ResultTables
 pub mod ExposureLists
 pub mod Scratches
 pub mod Spots

@@ -1,6 +1,6 @@
 -- A list is put in order in one way.
 use Rattle.std.proofs.Common.{◌≡◌, ◌+◌, ◌∙◌, ◌⊎◌, inl, inr, ℕ, Bool, true, false, List, [], ◌∷◌, if◌then◌else◌, cond, arith, refl, sym, subst, ap}
-use Rattle.std.specs.Ordering.{ordering_reverse, is_lt}
+use Rattle.std.specs.Ordering.{ordering_reverse, ordering_then, is_lt}
 use Rattle.std.specs.declared.cmp.Ordering.{Ordering}
 use Rattle.std.specs.declared.cmp.Ordering.TheVariants.{Less, Equal, Greater}
 use Rattle.std.specs.Cmp.{IsTotalOrder}
@@ -15,6 +15,12 @@ use Rattle.kin_rules.specs.Top.{placed, in_order, Leads, IsInOrder, IsOrdering}
 pub record IsExact {A : Type 0} (order : A → A → Ordering) : Type 0 where
   pub total : IsTotalOrder order
   pub exact : (x y : A) → order x y ≡ Equal → x ≡ y
+
+-- what ties by two orders ties by each
+pub both-tie : (r s : Ordering) → ordering_then r s ≡ Equal → (r ≡ Equal) × (s ≡ Equal)
+both-tie Less s h = absurd cc
+both-tie Equal s h = (refl, h)
+both-tie Greater s h = absurd cc
 
 pub three_ways : {A : Type 0} {order : A → A → Ordering} → IsExact order → (x y : A) → (order x y ≡ Less) ⊎ ((x ≡ y) ⊎ (order y x ≡ Less))
 three_ways {order = order} o x y = here (order x y) refl

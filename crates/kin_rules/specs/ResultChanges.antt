@@ -1,8 +1,7 @@
 -- What the calls that change a result do to it.
 use Rattle.std.specs.Prelude.{◌≡◌, ◌==◌, ◌&&◌, ◌||◌, ℕ, nat_lt, Bool, true, false, if◌then◌else◌, List, [], Option}
-use Rattle.std.specs.List.Sorted.{IsStrictlySortedBy}
 use Rattle.kin_ids.specs.declared.ids.User.{User}
-use Rattle.kin_ids.specs.Users.{user_cmp, same_user, same_tag, has_user}
+use Rattle.kin_ids.specs.Users.{same_user, same_tag, has_user}
 use Rattle.kin_rules.specs.declared.numbers.Num.{Num}
 use Rattle.kin_rules.specs.declared.numbers.Num.TheVariants as num
 use Rattle.kin_rules.specs.declared.numbers.KCount.{KCount}

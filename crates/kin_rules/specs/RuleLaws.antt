@@ -2,8 +2,11 @@
 use Rattle.std.proofs.Common.{◌≡◌, ◌≤◌, ◌<◌, ◌+◌, ℕ, Some, is_some, arith, refl}
 use Rattle.kin_rules.specs.declared.kinds.EdgeKind.{EdgeKind}
 use Rattle.kin_rules.specs.declared.kinds.EdgeKind.TheVariants as kind
+use Rattle.kin_rules.specs.declared.push_rules.Distance.{Distance}
+use Rattle.kin_rules.specs.declared.push_rules.Distance.TheVariants as distance
+use Rattle.kin_ids.specs.declared.ids.User.{User}
 use Rattle.kin_rules.specs.Walks.{IsRule, Under}
-use Rattle.kin_rules.specs.Instances.{hops, close}
+use Rattle.kin_rules.specs.Instances.{hops, close, distance_rule}
 
 hops-by_kind : (k : EdgeKind) (v w : ℕ) → is_some (hops k v) ≡ is_some (hops k w)
 hops-by_kind kind.Follow v w = refl
@@ -34,3 +37,7 @@ close-grows kind.Mention v n h = let e : v + 1 ≡ n = cc in (omega (arith, e), 
 
 pub close-laws : IsRule close 3
 close-laws = record { by_kind = close-by_kind; monotone = close-monotone; grows = close-grows; some = omega arith; few = omega arith }
+
+pub distance-laws : (d : Distance) (landmark : User) → IsRule (distance_rule d landmark).along (distance_rule d landmark).most
+distance-laws distance.Hops landmark = hops-laws
+distance-laws distance.Close landmark = close-laws

@@ -1,6 +1,7 @@
 //! Columns of numbers and of values over the users, ascending.
 
-ghost use Rattle.std.specs.Prelude.{◌≡◌, ◌<◌, ◌≤◌, None, All, IfOk, OnErr, OnOk, length, map, replicate, slice_index, vec_capacity, vec_len};
+ghost use Rattle.std.specs.Prelude.{◌≡◌, ◌<◌, ◌≤◌, None, All, IfOk, OnErr, OnOk};
+ghost use Rattle.std.specs.Prelude.{length, map, replicate, slice_index, vec_capacity, vec_len};
 ghost use Rattle.std.specs.List.Sorted.{IsStrictlySortedBy};
 ghost use Rattle.kin_ids.specs.Users.{user_cmp};
 ghost use Rattle.kin_rules.specs.Places.{place};

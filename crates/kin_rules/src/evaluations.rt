@@ -23,8 +23,8 @@ use kin_ids::{Memory, Use};
 use std::alloc::Global;
 use std::sync::ledger::Ledger;
 
-/// The rank of each vertex, by its place. It reads the halves into each once, and then takes time linear in vertices and edges for
-/// each layer.
+/// The rank of each vertex, by its place. It reads the halves into each once, and then takes time linear in vertices
+/// and edges for each layer.
 pub(crate) fn ranks<V: View, L: Ledger>(
     alloc: Global,
     view: &V,
@@ -35,7 +35,8 @@ pub(crate) fn ranks<V: View, L: Ledger>(
     requires vertices { AreVertices (V.seen view.now) index.now }
     requires facts { facts.now ≡ map (facts_seen (V.seen view.now)) index.now }
     ensures long { IfOk result (λ ranks. length ranks.items ≡ length index.now) }
-    ensures ranks { IfOk result (λ ranks. (g : Graph) → IsViewOf g (V.seen view.now) → ranks.items ≡ map (rank g) index.now) }
+    ensures ranks { IfOk result (λ ranks. (g : Graph) → IsViewOf g (V.seen view.now)
+        → ranks.items ≡ map (rank g) index.now) }
 {
     let ends = neighbours(alloc, view, Side::In, index, steps)?;
     top_row(alloc, &Rank, facts, &ends)
@@ -68,7 +69,8 @@ fn put_entries(
     ends: &[usize],
 ) -> Result<(), Memory>
     requires { All (λ i. i < length facts.now) ends.now }
-    ensures { OnOk result ((df : Facts) → entries.new.items ≡ entries.old.items ++ map (entry_among (uses_at df facts.now ends.now)) uses.now) }
+    ensures { OnOk result ((df : Facts) → entries.new.items
+        ≡ entries.old.items ++ map (entry_among (uses_at df facts.now ends.now)) uses.now) }
 {
     for item in uses {
         entries.push(UseK {
@@ -79,8 +81,8 @@ fn put_entries(
     Ok(())
 }
 
-/// An entry for each use of each vertex, with its tag and how many of those whom the user follows used the tag before. It reads
-/// the halves out of each vertex once; a use of a user then looks at each use of those whom the user follows.
+/// An entry for each use of each vertex, with its tag and how many of those whom the user follows used the tag before.
+/// It reads the halves out of each vertex once; a use of a user then looks at each use of those whom the user follows.
 pub(crate) fn exposures<V: View, L: Ledger>(
     alloc: Global,
     view: &V,
@@ -90,7 +92,8 @@ pub(crate) fn exposures<V: View, L: Ledger>(
 ) -> Result<Vec<UseK>, Memory>
     requires vertices { AreVertices (V.seen view.now) index.now }
     requires facts { facts.now ≡ map (facts_seen (V.seen view.now)) index.now }
-    ensures { IfOk result (λ entries. (g : Graph) → IsViewOf g (V.seen view.now) → (t : List ℕ) (k : ℕ) → count_by (rule.is_entry t k) entries.items ≡ exposure g t k) }
+    ensures { IfOk result (λ entries. (g : Graph) → IsViewOf g (V.seen view.now)
+        → (t : List ℕ) (k : ℕ) → count_by (rule.is_entry t k) entries.items ≡ exposure g t k) }
 {
     let ends = neighbours(alloc, view, Side::Out, index, steps)?;
     let mut entries = Vec::new(alloc);

@@ -1,10 +1,11 @@
 //! How many users of each tag have which exposure.
 
-ghost use Rattle.std.specs.Prelude.{◌≡◌, ◌<◌, ◌+◌, ◌==◌, ◌++◌, ◌∷◌, ℕ, List, [], IfOk, OnOk, count_by, if◌then◌else◌, length, map, nat_lt, replicate, slice_index, slice_set};
+ghost use Rattle.std.specs.Prelude.{◌≡◌, ◌<◌, ◌+◌, ◌==◌, ◌++◌, ◌∷◌, ℕ, List, [], IfOk, OnOk, if◌then◌else◌};
+ghost use Rattle.std.specs.Prelude.{count_by, length, map, nat_lt, replicate, slice_index, slice_set};
 ghost use Rattle.kin_rules.specs.declared.exposure_rules.UseK.{UseK};
 ghost use Rattle.std.specs.List.Sorted.{IsStrictlySortedBy};
 ghost use Rattle.kin_ids.specs.Users.{tag_cmp};
-ghost use Rattle.kin_rules.specs.ExposureLists.{counted, ks_of, listed};
+ghost use Rattle.kin_rules.specs.ExposureLists.{counted, counted_one, ks_of, listed};
 
 use crate::exposure_rules::UseK;
 use crate::numbers::KCount;
@@ -54,8 +55,7 @@ fn rows_of_tags(alloc: Global, tags: &[Tag], entries: &[UseK]) -> Result<Vec<Vec
 // One more at a place, where there is such a place.
 fn count_one(counts: &mut Vec<u64>, k: u64)
     requires { slice_index counts.old.items k < u64.MAX }
-    ensures { counts.new.items
-        ≡ (if nat_lt k (length counts.old.items) then slice_set counts.old.items k (slice_index counts.old.items k + 1) else counts.old.items) }
+    ensures { counts.new.items ≡ counted_one counts.old.items k }
 {
     if k < counts.len() as u64 {
         counts[k as usize] += 1;
@@ -99,7 +99,8 @@ pub(crate) fn exposure_lists(
 ) -> Result<Vec<ListOf<KCount>>, Memory>
     requires ascend { IsStrictlySortedBy tag_cmp tags.now }
     requires long { length tag_users.now ≡ length tags.now }
-    ensures { IfOk result (λ lists. (f : List ℕ → ℕ) → tag_users.now ≡ map f tags.now → lists.items ≡ map (λ t. counted (ks_of entries.now t) (f t)) tags.now) }
+    ensures { IfOk result (λ lists. (f : List ℕ → ℕ) → tag_users.now ≡ map f tags.now
+        → lists.items ≡ map (λ t. counted (ks_of entries.now t) (f t)) tags.now) }
 {
     let rows = rows_of_tags(alloc, tags, entries)?;
     let mut lists = Vec::with_capacity(alloc, tags.len())?;

@@ -20,7 +20,8 @@ pub struct UseK {
 /// The entries of a user, ascending by tag.
 pub type UseKs = ListOf<UseK>;
 
-/// For each tag that a user has used, how many of those whom it follows used it before. One layer over those whom a user follows.
+/// For each tag that a user has used, how many of those whom it follows used it before. One layer over those whom a
+/// user follows.
 #[derive(Clone, Copy, Debug, PartialEq, Eq)]
 pub(crate) struct Exposure;
 

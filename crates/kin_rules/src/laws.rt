@@ -6,7 +6,8 @@ ghost use Rattle.kin_rules.specs.Edges.{FewIsSmall};
 ghost use Rattle.kin_rules.specs.Exposure.{ExposuresAddUp, ExposuresAreFew};
 ghost use Rattle.kin_rules.specs.ExposureRule.{ExposuresAreLayers};
 ghost use Rattle.kin_rules.specs.Kept.{RestIsLeast};
-ghost use Rattle.kin_rules.specs.Nets.{CloseAddsUp, CloseIsLeast, EdgesAreSeen, HopsAreLeast, HopsCountEdges, NetsAreWhole};
+ghost use Rattle.kin_rules.specs.Nets.{CloseAddsUp, CloseIsLeast, EdgesAreSeen};
+ghost use Rattle.kin_rules.specs.Nets.{HopsAreLeast, HopsCountEdges, NetsAreWhole};
 ghost use Rattle.kin_rules.specs.Ranks.{FollowersFollow, RanksAreCapped};
 ghost use Rattle.kin_rules.specs.RankRule.{RanksAreLayers};
 ghost use Rattle.kin_rules.specs.Spreads.{OfferSpreads, QuietIsLeast, RestSpreads};
@@ -45,7 +46,8 @@ pub fn spread_laws()
     ensures rest { RestSpreads }
 {}
 
-/// Followers are those whose edge is present. No rank passes 10^15, and no share is among nobody. Rank is a rule of layers.
+/// Followers are those whose edge is present. No rank passes 10^15, and no share is among nobody. Rank is a rule of
+/// layers.
 pub fn rank_laws()
     ensures followers { FollowersArePresent }
     ensures capped { RanksAreCapped }
@@ -60,7 +62,8 @@ pub fn exposure_laws()
     ensures layers { ExposuresAreLayers }
 {}
 
-/// Top lists are cut from the entries in order, and there is one such order. It is the same in whatever order users or tags come.
+/// Top lists are cut from the entries in order, and there is one such order. It is the same in whatever order users or
+/// tags come.
 pub fn top_laws()
     ensures users { UsersAreOrdered }
     ensures tags { TagsAreOrdered }

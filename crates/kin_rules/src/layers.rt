@@ -7,7 +7,8 @@ ghost use Rattle.kin_ids.specs.Wholes.{IsViewOf};
 ghost use Rattle.kin_graph.specs.Views.{AreVertices};
 ghost use Rattle.kin_rules.specs.declared.pull_rules.Facts.{Facts};
 ghost use Rattle.kin_rules.specs.Layers.{LayerNet, layer, lent};
-ghost use Rattle.kin_rules.specs.LayerTables.{AreAllShares, ArePlaces, AreRows, IsTable, input_at, layer_value, value_at};
+ghost use Rattle.kin_rules.specs.LayerTables.{AreAllShares, ArePlaces, AreRows, IsNextAt, IsRowAbove, IsTable};
+ghost use Rattle.kin_rules.specs.LayerTables.{input_at, layer_value, value_at};
 
 use crate::Index;
 use crate::edges::Edges;
@@ -79,7 +80,7 @@ fn lent_next<R: PullRule>(
 ) -> Result<R::Value, Memory>
     requires facts { All (λ i. i < length facts.now) ends.now }
     requires row { All (λ i. i < length row.now) ends.now }
-    ensures { IfOk result (λ v. (df : Facts) (d : R.Value) → v ≡ (R.seen rule.now).next own.now (map (input_at df d facts.now row.now) ends.now)) }
+    ensures { IfOk result (IsNextAt (R.seen rule.now) facts.now row.now own.now ends.now) }
 {
     let inputs = lend(alloc, facts, row, ends)?;
     rule.next_lent(alloc, own, inputs.as_slice())
@@ -118,7 +119,7 @@ fn next_of<R: PullRule>(
     requires facts { All (λ i. i < length facts.now) ends.now }
     requires row { All (λ i. i < length row.now) ends.now }
     requires shares { IfSome shares.now (λ v. AreAllShares (R.share rule.now) facts.now row.now v.items) }
-    ensures { IfOk result (λ v. (df : Facts) (d : R.Value) → v ≡ (R.seen rule.now).next own.now (map (input_at df d facts.now row.now) ends.now)) }
+    ensures { IfOk result (IsNextAt (R.seen rule.now) facts.now row.now own.now ends.now) }
 {
     if let Some(shares) = shares {
         if let Some(value) = rule.next_shares(alloc, own, shares.as_slice(), ends)? {
@@ -141,7 +142,7 @@ fn row_by<R: PullRule>(
     requires long { length facts.now ≡ length row.now }
     requires shares { IfSome shares.now (λ v. AreAllShares (R.share rule.now) facts.now row.now v.items) }
     ensures long { IfOk result (λ v. length v.items ≡ length facts.now) }
-    ensures above { IfOk result (λ v. (net : LayerNet) (users : List User) (j : ℕ) → IsTable net users facts.now ends.now → row.now ≡ map (layer (R.seen rule.now) net j) users → v.items ≡ map (layer (R.seen rule.now) net (j + 1)) users) }
+    ensures above { IfOk result (λ v. IsRowAbove (R.seen rule.now) facts.now ends.now row.now v.items) }
 {
     let mut next = Vec::with_capacity(alloc, facts.len())?;
     for k in 0..facts.len() {
@@ -161,7 +162,7 @@ fn row_above<R: PullRule>(
     requires places { ArePlaces (length facts.now) ends.now }
     requires long { length facts.now ≡ length row.now }
     ensures long { IfOk result (λ v. length v.items ≡ length facts.now) }
-    ensures above { IfOk result (λ v. (net : LayerNet) (users : List User) (j : ℕ) → IsTable net users facts.now ends.now → row.now ≡ map (layer (R.seen rule.now) net j) users → v.items ≡ map (layer (R.seen rule.now) net (j + 1)) users) }
+    ensures above { IfOk result (λ v. IsRowAbove (R.seen rule.now) facts.now ends.now row.now v.items) }
 {
     let shares = shares_of(alloc, rule, facts, row)?;
     row_by(alloc, rule, facts, ends, row, &shares)
@@ -188,7 +189,8 @@ pub(crate) fn top_row<R: PullRule>(
 ) -> Result<Vec<R::Value>, Memory>
     requires { ArePlaces (length facts.now) ends.now }
     ensures long { IfOk result (λ v. length v.items ≡ length facts.now) }
-    ensures top { IfOk result (λ v. (net : LayerNet) (users : List User) → IsTable net users facts.now ends.now → v.items ≡ map (layer (R.seen rule.now) net R.LAYERS) users) }
+    ensures top { IfOk result (λ v. (net : LayerNet) (users : List User) → IsTable net users facts.now ends.now
+        → v.items ≡ map (layer (R.seen rule.now) net R.LAYERS) users) }
 {
     let mut row = first_row(alloc, rule, facts)?;
     for level in 0..R::LAYERS {
@@ -207,7 +209,8 @@ fn all_rows<R: PullRule>(
     ends: &Edges,
 ) -> Result<Vec<Vec<R::Value>>, Memory>
     requires { ArePlaces (length facts.now) ends.now }
-    ensures { IfOk result (λ v. (net : LayerNet) (users : List User) → IsTable net users facts.now ends.now → AreRows (R.seen rule.now) net users (R.LAYERS + 1) (map (λ r. r.items) v.items)) }
+    ensures { IfOk result (λ v. (net : LayerNet) (users : List User) → IsTable net users facts.now ends.now
+        → AreRows (R.seen rule.now) net users (R.LAYERS + 1) (map (λ r. r.items) v.items)) }
 {
     let mut row = first_row(alloc, rule, facts)?;
     let mut rows = Vec::new(alloc);
@@ -229,7 +232,8 @@ fn layers_by<V: View, R: PullRule, L: Ledger>(
     requires name { blank.name ≡ L.name }
     requires parts { (blank.parts ≡ L.parts) × (0 < L.parts) }
     ensures users { IfOk result (λ layers. AreVertices (V.seen view.now) layers.users) }
-    ensures values { IfOk result (λ layers. (g : Graph) → IsViewOf g (V.seen view.now) → (u : User) (j : ℕ) → value_at layers u j ≡ layer_value (R.seen rule.now) R.LAYERS g u j) }
+    ensures values { IfOk result (λ layers. (g : Graph) → IsViewOf g (V.seen view.now)
+        → (u : User) (j : ℕ) → value_at layers u j ≡ layer_value (R.seen rule.now) R.LAYERS g u j) }
 {
     let mut steps = Steps::<L>::new(blank);
     let users = view.users()?;
@@ -240,15 +244,17 @@ fn layers_by<V: View, R: PullRule, L: Ledger>(
     Ok(Layers { index, rows })
 }
 
-/// Every layer of every vertex. It reads each list of neighbours once, with one look-up by hash an edge; then each layer takes
-/// time linear in vertices and edges where the rule has shares, and what its `next_lent` takes where it has none.
+/// Every layer of every vertex. It reads each list of neighbours once, with one look-up by hash an edge; then each
+/// layer takes time linear in vertices and edges where the rule has shares, and what its `next_lent` takes where it
+/// has none.
 pub fn layer_values<V: View, R: PullRule>(
     alloc: Global,
     view: &V,
     rule: &R,
 ) -> Result<Layers<R::Value>, Memory>
     ensures users { IfOk result (λ layers. AreVertices (V.seen view.now) layers.users) }
-    ensures values { IfOk result (λ layers. (g : Graph) → IsViewOf g (V.seen view.now) → (u : User) (j : ℕ) → value_at layers u j ≡ layer_value (R.seen rule.now) R.LAYERS g u j) }
+    ensures values { IfOk result (λ layers. (g : Graph) → IsViewOf g (V.seen view.now)
+        → (u : User) (j : ℕ) → value_at layers u j ≡ layer_value (R.seen rule.now) R.LAYERS g u j) }
 {
     layers_by::<V, R, Brand>(alloc, view, rule, Blank::new(1))
 }

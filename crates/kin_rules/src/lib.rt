@@ -1,4 +1,5 @@
-//! What the rules of mining mean on a graph: counts, least walks, rank, exposure and lists cut to their greatest entries.
+//! What the rules of mining mean on a graph: counts, least walks, rank, exposure and lists cut to their greatest
+//! entries.
 #![tactic(auto)]
 
 mod columns;

@@ -60,9 +60,9 @@ pub struct Lent<'a, V: Drop> {
     pub value: &'a V,
 }
 
-/// A rule of layers. Layer 0 of everybody is `first`, and each layer above is `next` of the user's facts and of its inputs one
-/// layer lower. The three provided calls make evaluation fast: a rule that needs no copies of its inputs writes `next_lent`, and
-/// one that sees an input by a number alone writes `share` and `next_shares`.
+/// A rule of layers. Layer 0 of everybody is `first`, and each layer above is `next` of the user's facts and of its
+/// inputs one layer lower. The three provided calls make evaluation fast: a rule that needs no copies of its inputs
+/// writes `next_lent`, and one that sees an input by a number alone writes `share` and `next_shares`.
 pub trait PullRule {
     ghost use Rattle.std.specs.Prelude.{◌≡◌, ◌<◌, ℕ, IfOk, IfSome, List, All, length};
     ghost use Rattle.kin_rules.specs.declared.pull_rules.Facts.{Facts};

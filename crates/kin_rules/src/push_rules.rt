@@ -25,54 +25,40 @@ pub trait PushRule {
     ghost laws: { (r : Self) → IsRule (seen r).along (seen r).most };
 }
 
-/// The least number of follow edges.
+/// How far users are from a landmark.
 #[derive(Clone, Copy, Debug, PartialEq, Eq)]
-pub(crate) struct HopsBy {
-    pub(crate) landmark: User,
+pub(crate) enum Distance {
+    /// The least number of follow edges.
+    Hops,
+    /// The least cost where a follow edge costs 3 and a mention edge 1.
+    Close,
 }
 
-impl PushRule for HopsBy {
-    ghost use Rattle.kin_rules.specs.Instances.{hops_rule};
-    ghost use Rattle.kin_rules.specs.RuleLaws.{hops-laws};
+/// The rule of a distance from a landmark.
+#[derive(Clone, Copy, Debug, PartialEq, Eq)]
+pub(crate) struct DistanceFrom {
+    pub(crate) landmark: User,
+    pub(crate) distance: Distance,
+}
 
-    ghost seen = { λ r. hops_rule r.landmark };
+impl PushRule for DistanceFrom {
+    ghost use Rattle.kin_rules.specs.Instances.{distance_rule};
+    ghost use Rattle.kin_rules.specs.RuleLaws.{distance-laws};
+
+    ghost seen = { λ r. distance_rule r.distance r.landmark };
 
     fn landmark(&self) -> User {
         self.landmark
     }
 
     fn along(&self, kind: EdgeKind, value: u32) -> Option<u32> {
-        match kind {
-            EdgeKind::Follow => Some(value + 1),
-            EdgeKind::Mention => None,
+        match (self.distance, kind) {
+            (Distance::Hops, EdgeKind::Follow) => Some(value + 1),
+            (Distance::Hops, EdgeKind::Mention) => None,
+            (Distance::Close, EdgeKind::Follow) => Some(value + 3),
+            (Distance::Close, EdgeKind::Mention) => Some(value + 1),
         }
     }
 
-    ghost laws = { λ _. hops-laws };
-}
-
-/// The least cost where a follow edge costs 3 and a mention edge 1.
-#[derive(Clone, Copy, Debug, PartialEq, Eq)]
-pub(crate) struct CloseBy {
-    pub(crate) landmark: User,
-}
-
-impl PushRule for CloseBy {
-    ghost use Rattle.kin_rules.specs.Instances.{close_rule};
-    ghost use Rattle.kin_rules.specs.RuleLaws.{close-laws};
-
-    ghost seen = { λ r. close_rule r.landmark };
-
-    fn landmark(&self) -> User {
-        self.landmark
-    }
-
-    fn along(&self, kind: EdgeKind, value: u32) -> Option<u32> {
-        match kind {
-            EdgeKind::Follow => Some(value + 3),
-            EdgeKind::Mention => Some(value + 1),
-        }
-    }
-
-    ghost laws = { λ _. close-laws };
+    ghost laws = { λ r. distance-laws r.distance r.landmark };
 }

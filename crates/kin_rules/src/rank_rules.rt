@@ -9,7 +9,8 @@ use crate::pull_rules::{Facts, Input, Lent, PullRule, Side};
 use kin_ids::Memory;
 use std::alloc::Global;
 
-/// Each user passes half of its rank on, in equal shares, with a million of its own. Eight layers over those who follow a user.
+/// Each user passes half of its rank on, in equal shares, with a million of its own. Eight layers over those who
+/// follow a user.
 #[derive(Clone, Copy, Debug, PartialEq, Eq)]
 pub(crate) struct Rank;
 

@@ -6,7 +6,8 @@ ghost use Rattle.kin_ids.specs.declared.ids.User.{User};
 ghost use Rattle.kin_ids.specs.Users.{has_user, tag_cmp, user_cmp};
 ghost use Rattle.kin_ids.specs.Graph.{empty_graph};
 ghost use Rattle.kin_rules.specs.declared.numbers.Num.TheVariants as num;
-ghost use Rattle.kin_rules.specs.Results.{AreExposures, IsResult, close_in, expo_in, first_result, has_tag, hops_in, landmarks_in, number_in, tag_users_in};
+ghost use Rattle.kin_rules.specs.Results.{AreExposures, IsResult, close_in, expo_in, first_result, has_tag};
+ghost use Rattle.kin_rules.specs.Results.{hops_in, landmarks_in, number_in, tag_users_in};
 ghost use Rattle.kin_rules.specs.Spots.{IsSpot, StandsAt, WouldStandAt};
 ghost use Rattle.kin_rules.specs.ResultChanges.{AddsUser, SetsClose, SetsExpo, SetsHops, SetsNumber, SetsTag};
 
@@ -41,11 +42,11 @@ impl Model for EpochResult {
 
     ghost Value = { ResultView };
 
-    ghost use Rattle.kin_rules.specs.Columns.{columns_of};
+    ghost use Rattle.kin_rules.specs.ResultTables.{shown};
 
-    ghost view = { λ a. record { epoch = a.epoch.0; users = a.users.items; ins = a.ins.items; outs = a.outs.items; said = a.said.items; ranks = a.ranks.items; tags = a.tags.items; tag_users = a.tag_users.items; expos = a.expos.items; hops = columns_of a.hops.items; close = columns_of a.close.items } };
+    ghost view = { shown };
 
-    ghost invariant = { λ a. IsTabular (record { epoch = a.epoch.0; users = a.users.items; ins = a.ins.items; outs = a.outs.items; said = a.said.items; ranks = a.ranks.items; tags = a.tags.items; tag_users = a.tag_users.items; expos = a.expos.items; hops = columns_of a.hops.items; close = columns_of a.close.items }) };
+    ghost invariant = { λ a. IsTabular (shown a) };
 }
 
 /// A tag's spot among the tags. O(log n).
@@ -215,8 +216,8 @@ impl EpochResult {
         Ok(())
     }
 
-    /// Sets how many users a tag has. Where it has none, it is in use no longer, and its exposures go with it. It costs O(n) in the
-    /// tags where the tag comes or goes, else a look-up.
+    /// Sets how many users a tag has. Where it has none, it is in use no longer, and its exposures go with it. It costs
+    /// O(n) in the tags where the tag comes or goes, else a look-up.
     pub fn set_tag(&mut self, t: Tag, n: u64) -> Result<(), Memory>
         ensures set { OnOk result (SetsTag self.old t n self.new) }
         ensures err { OnErr result (self.new ≡ self.old) }

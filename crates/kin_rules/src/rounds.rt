@@ -41,7 +41,12 @@ impl Model for Walk {
 
     ghost Value = { Tally };
 
-    ghost view = { λ a. record { values = a.values.items; one = a.one.items; two = a.two.items; three = a.three.items } };
+    ghost view = { λ a. record {
+      values = a.values.items;
+      one = a.one.items;
+      two = a.two.items;
+      three = a.three.items;
+    } };
 }
 
 // Whether an offer is below a value.

@@ -9,8 +9,9 @@ ghost use Rattle.kin_graph.specs.Views.{AreVertices, IsSmall, is_in_use};
 ghost use Rattle.kin_rules.specs.Columns.{AreOf, columns_of};
 ghost use Rattle.kin_rules.specs.Edges.{AreEdgesOf};
 ghost use Rattle.kin_rules.specs.Exposure.{exposures as exposures_of};
+ghost use Rattle.kin_rules.specs.Instances.{distance_rule};
 ghost use Rattle.kin_rules.specs.LayerTables.{facts_seen};
-ghost use Rattle.kin_rules.specs.Nets.{close_of, hops_of};
+ghost use Rattle.kin_rules.specs.Nets.{close_of, hops_of, least_of};
 ghost use Rattle.kin_rules.specs.Ranks.{rank};
 ghost use Rattle.kin_rules.specs.Results.{IsResult, has_tag};
 ghost use Rattle.kin_rules.specs.Scratches.{AreLists, column_by, in_seen, out_seen, users_seen};
@@ -23,7 +24,7 @@ use crate::exposure_lists::exposure_lists;
 use crate::neighbours::all_facts;
 use crate::numbers::KCount;
 use crate::pull_rules::Facts;
-use crate::push_rules::{CloseBy, HopsBy};
+use crate::push_rules::{Distance, DistanceFrom};
 use crate::results::EpochResult;
 use crate::walks::walk_values;
 use kin_graph::{Steps, View};
@@ -79,52 +80,27 @@ fn tag_counts<V: View>(alloc: Global, view: &V, tags: &[Tag]) -> Result<Vec<u64>
     Ok(counts)
 }
 
-// A column of the hops from each landmark.
-fn hops_columns(
+// A column of the distances from each landmark.
+fn walk_columns(
     alloc: Global,
     index: &Index,
     follows: &Edges,
     mentions: &Edges,
+    distance: Distance,
     landmarks: &[User],
 ) -> Result<Vec<Column>, Memory>
     requires small { length index.now ≤ 2 ^ 27 }
     ensures users { IfOk result (λ columns. AreOf (length index.now) (columns_of columns.items)) }
     ensures count { IfOk result (λ columns. length columns.items ≡ length landmarks.now) }
     ensures values { IfOk result (λ columns. (g : Graph) → AreEdgesOf g index.now follows.now mentions.now
-        → columns_of columns.items ≡ map (λ l. column_by (hops_of g l) index.now) landmarks.now) }
+        → columns_of columns.items
+        ≡ map (λ l. column_by (least_of (distance_rule distance l) g) index.now) landmarks.now) }
 {
     let mut columns = Vec::with_capacity(alloc, landmarks.len())?;
     for landmark in landmarks {
-        let rule = HopsBy {
+        let rule = DistanceFrom {
             landmark: *landmark,
-        };
-        let values = walk_values(alloc, index, follows, mentions, &rule)?;
-        columns.push(Column {
-            values,
-            others: BTreeMap::new(alloc),
-        })?;
-    }
-    Ok(columns)
-}
-
-// A column of the closeness from each landmark.
-fn close_columns(
-    alloc: Global,
-    index: &Index,
-    follows: &Edges,
-    mentions: &Edges,
-    landmarks: &[User],
-) -> Result<Vec<Column>, Memory>
-    requires small { length index.now ≤ 2 ^ 27 }
-    ensures users { IfOk result (λ columns. AreOf (length index.now) (columns_of columns.items)) }
-    ensures count { IfOk result (λ columns. length columns.items ≡ length landmarks.now) }
-    ensures values { IfOk result (λ columns. (g : Graph) → AreEdgesOf g index.now follows.now mentions.now
-        → columns_of columns.items ≡ map (λ l. column_by (close_of g l) index.now) landmarks.now) }
-{
-    let mut columns = Vec::with_capacity(alloc, landmarks.len())?;
-    for landmark in landmarks {
-        let rule = CloseBy {
-            landmark: *landmark,
+            distance,
         };
         let values = walk_values(alloc, index, follows, mentions, &rule)?;
         columns.push(Column {
@@ -157,7 +133,8 @@ fn numbers_of<V: View, L: Ledger>(
     ensures outs { IfOk result (λ n. n.outs.items ≡ map (out_seen (V.seen view.now)) index.now) }
     ensures said { IfOk result (λ n. n.said.items ≡ map (V.seen view.now).said index.now) }
     ensures long { IfOk result (λ n. length n.ranks.items ≡ length index.now) }
-    ensures ranks { IfOk result (λ n. (g : Graph) → IsViewOf g (V.seen view.now) → n.ranks.items ≡ map (rank g) index.now) }
+    ensures ranks { IfOk result (λ n. (g : Graph) → IsViewOf g (V.seen view.now)
+        → n.ranks.items ≡ map (rank g) index.now) }
 {
     Ok(Numbers {
         ins: in_counts(alloc, view, index.as_slice(), steps)?,
@@ -188,7 +165,8 @@ fn tag_rows<V: View, L: Ledger>(
     ensures in_use { IfOk result (λ r. (t : List ℕ) → has_tag r.tags.items t ≡ is_in_use (V.seen view.now) t) }
     ensures users { IfOk result (λ r. r.tag_users.items ≡ map (users_seen (V.seen view.now)) r.tags.items) }
     ensures lists { IfOk result (λ r. AreLists r.tags.items r.expos.items) }
-    ensures expos { IfOk result (λ r. (g : Graph) → IsViewOf g (V.seen view.now) → r.expos.items ≡ map (exposures_of g) r.tags.items) }
+    ensures expos { IfOk result (λ r. (g : Graph) → IsViewOf g (V.seen view.now)
+        → r.expos.items ≡ map (exposures_of g) r.tags.items) }
 {
     let tags = view.tags()?;
     let tag_users = tag_counts(alloc, view, tags.as_slice())?;
@@ -232,8 +210,15 @@ fn walks_of<V: View, L: Ledger>(
 {
     let follows = Edges::follows(alloc, view, index, steps)?;
     let mentions = Edges::mentions(alloc, view, index, steps)?;
-    let hops = hops_columns(alloc, index, &follows, &mentions, landmarks)?;
-    let close = close_columns(alloc, index, &follows, &mentions, landmarks)?;
+    let hops = walk_columns(alloc, index, &follows, &mentions, Distance::Hops, landmarks)?;
+    let close = walk_columns(
+        alloc,
+        index,
+        &follows,
+        &mentions,
+        Distance::Close,
+        landmarks,
+    )?;
     Ok(Walks { hops, close })
 }
 
@@ -253,7 +238,7 @@ fn scratch_by<V: View, L: Ledger>(
     let mut steps = Steps::<L>::new(blank);
     let users = view.users()?;
     let index = Index::of(alloc, users.as_slice())?;
-    let facts = all_facts(alloc, view, users.as_slice(), &mut steps)?;
+    let facts = all_facts(alloc, view, index.as_slice(), &mut steps)?;
     let numbers = numbers_of(alloc, view, &index, facts.as_slice(), &mut steps)?;
     let rows = tag_rows(alloc, view, &index, facts.as_slice(), &mut steps)?;
     let walks = walks_of(alloc, view, &index, landmarks, &mut steps)?;
@@ -273,9 +258,10 @@ fn scratch_by<V: View, L: Ledger>(
     })
 }
 
-/// Evaluates all rules on a view that hands out a whole graph. The vertices are numbered once, and each list of edges is read into places
-/// once for walks, once for rank and once for exposure. Linear in the vertices and edges for each landmark and each layer of rank, with a
-/// look-up by hash an edge, O(log t) a use of a tag for t tags, and a sort of the vertices and tags.
+/// Evaluates all rules on a view that hands out a whole graph. The vertices are numbered once, and each list of edges
+/// is read into places once for walks, once for rank and once for exposure. Linear in the vertices and edges for each
+/// landmark and each layer of rank, with a look-up by hash an edge, O(log t) a use of a tag for t tags, and a sort of
+/// the vertices and tags.
 pub fn scratch<V: View>(
     alloc: Global,
     view: &V,

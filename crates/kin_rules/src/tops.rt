@@ -52,8 +52,8 @@ fn take_first<T: Ord + Copy>(alloc: Global, entries: &mut [T], t: u64) -> Result
     Ok(Vec::from_slice(alloc, first)?)
 }
 
-/// The t entries with the greatest numbers, none of them 0, greater numbers first and ties by the lesser user. It selects in time
-/// linear in the list on average, O(n log n) at worst, and puts only the t in order.
+/// The t entries with the greatest numbers, none of them 0, greater numbers first and ties by the lesser user. It
+/// selects in time linear in the list on average, O(n log n) at worst, and puts only the t in order.
 pub fn top_users(alloc: Global, list: &[UserNumber], t: u64) -> Result<Vec<UserNumber>, Memory>
     ensures { IfOk result (λ top. top.items ≡ tops.top_users list.now t) }
 {
@@ -61,8 +61,8 @@ pub fn top_users(alloc: Global, list: &[UserNumber], t: u64) -> Result<Vec<UserN
     take_first(alloc, entries.as_mut_slice(), t)
 }
 
-/// The t entries with the greatest numbers, none of them 0, greater numbers first and ties by the lesser tag. It selects in time
-/// linear in the list on average, O(n log n) at worst, and puts only the t in order.
+/// The t entries with the greatest numbers, none of them 0, greater numbers first and ties by the lesser tag. It
+/// selects in time linear in the list on average, O(n log n) at worst, and puts only the t in order.
 pub fn top_tags(alloc: Global, list: &[TagNumber], t: u64) -> Result<Vec<TagNumber>, Memory>
     ensures { IfOk result (λ top. top.items ≡ tops.top_tags list.now t) }
 {

@@ -1,5 +1,5 @@
 use crate::edges::Edges;
-use crate::push_rules::{CloseBy, HopsBy};
+use crate::push_rules::{Distance, DistanceFrom};
 use crate::walks::walk_values;
 use crate::{Costs, Index};
 use kin_ids::User;
@@ -26,23 +26,14 @@ fn walks_of_a_detour(rt: HostRuntime) -> Result<(), Fail> {
         (9, [None; 3], [None; 3]),
     ];
     for (landmark, hops, close) in table {
-        let landmark = User(landmark);
-        let found = walk_values(
-            rt.alloc(),
-            &index,
-            &follows,
-            &mentions,
-            &HopsBy { landmark },
-        )?;
-        assert!(rt; found.as_slice() == hops.as_slice());
-        let found = walk_values(
-            rt.alloc(),
-            &index,
-            &follows,
-            &mentions,
-            &CloseBy { landmark },
-        )?;
-        assert!(rt; found.as_slice() == close.as_slice());
+        for (distance, want) in [(Distance::Hops, hops), (Distance::Close, close)] {
+            let rule = DistanceFrom {
+                landmark: User(landmark),
+                distance,
+            };
+            let found = walk_values(rt.alloc(), &index, &follows, &mentions, &rule)?;
+            assert!(rt; found.as_slice() == want.as_slice());
+        }
     }
     Ok(())
 }

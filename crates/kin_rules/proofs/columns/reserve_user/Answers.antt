@@ -1,9 +1,6 @@
-use Rattle.std.proofs.Common.{◌≡◌, ◌<◌, ◌∙◌, ℕ, Bool, true, false, eqb, ap, sym, refl, subst, get_or, set, vec_len, vec_capacity, length, arith}
-use Rattle.std.proofs.lemmas.Bool.Decides.{nat_tests}
-use Rattle.std.proofs.lemmas.List.{get_or-set_same, get_or-set_other}
+use Rattle.std.proofs.Common.{◌<◌, ◌∙◌, ap, get_or, vec_len, vec_capacity, length, arith}
 use Rattle.kin_rules.specs.declared.columns.Column.{Column}
 use Rattle.kin_rules.specs.Results.{ColumnView}
-use Rattle.kin_rules.specs.Columns.{column_of, columns_of}
 use Rattle.kin_rules.proofs.ColumnReads.{same-set, below-set}
 use Rattle.kin_rules.proofs.columns.reserve_user.Goals as goal
 

@@ -1,5 +1,4 @@
-use Rattle.std.proofs.Common.{length, ◌∙◌, ap}
-use Rattle.kin_rules.specs.declared.columns.Column.{Column}
+use Rattle.std.proofs.Common.{length}
 use Rattle.kin_rules.proofs.ColumnReads.{column-long, long-set, set-column, same-set, on-err}
 use Rattle.kin_rules.proofs.columns.set_value.Goals as goal
 

@@ -1,6 +1,6 @@
 use Rattle.std.proofs.Common.{length, ◌∙◌, ap}
 use Rattle.kin_rules.specs.declared.columns.Column.{Column}
-use Rattle.kin_rules.proofs.ColumnReads.{column-long, column-at}
+use Rattle.kin_rules.proofs.ColumnReads.{column-long}
 use Rattle.kin_rules.proofs.columns.value_at.Goals as goal
 
 pub value-requires-clause-users : goal.value-requires-clause-users

@@ -1,12 +1,9 @@
-use Rattle.std.proofs.Common.{◌≡◌, ◌∙◌, List, ℕ, map, length, IfOk, ap}
+use Rattle.std.proofs.Common.{◌∙◌, length, ap}
 use Rattle.std.proofs.lemmas.List.{length-map}
 use Rattle.std.proofs.lemmas.Result.{IfOk-weaker}
-use Rattle.kin_ids.specs.Graph.{Graph}
-use Rattle.kin_ids.specs.Wholes.{IsViewOf}
-use Rattle.kin_ids.specs.declared.ids.User.{User}
 use Rattle.kin_rules.specs.declared.pull_rules.Side.TheVariants as side
-use Rattle.kin_rules.specs.Layers.{LayerNet, layer}
-use Rattle.kin_rules.specs.LayerTables.{IsTable, facts_seen, neighbours_seen, net_within}
+use Rattle.kin_rules.specs.Layers.{layer}
+use Rattle.kin_rules.specs.LayerTables.{facts_seen, neighbours_seen, net_within}
 use Rattle.kin_rules.specs.RankRule.{rank_rule}
 use Rattle.kin_rules.specs.RankRuleLaws.{rank-laws}
 use Rattle.kin_rules.specs.Ranks.{rank}

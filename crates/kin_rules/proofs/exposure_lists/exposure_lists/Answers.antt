@@ -1,4 +1,4 @@
-use Rattle.std.proofs.Common.{◌≡◌, ◌<◌, ◌∙◌, ap, sym, length, map, get_or, List, [], ℕ, arith}
+use Rattle.std.proofs.Common.{◌<◌, ◌∙◌, ap, sym, length, get_or, [], arith}
 use Rattle.std.proofs.lemmas.List.{length-map}
 use Rattle.kin_rules.specs.ExposureLists.{counted, ks_of, listed}
 use Rattle.kin_rules.proofs.ExposureSteps.{lists-more, listed-counted, number-at, row-at}

@@ -1,4 +1,4 @@
-use Rattle.std.proofs.Common.{◌≡◌, ℕ, List, map, take, length}
+use Rattle.std.proofs.Common.{◌≡◌, ℕ, List, map, take}
 use Rattle.kin_rules.specs.ExposureLists.{counted, ks_of}
 use Rattle.kin_rules.proofs.exposure_lists.exposure_lists.Given as goal
 

@@ -1,4 +1,4 @@
-use Rattle.std.proofs.Common.{◌≡◌, ◌∙◌, ap, ℕ, get_or, arith}
+use Rattle.std.proofs.Common.{◌∙◌, ap, arith}
 use Rattle.kin_rules.proofs.ExposureSteps.{list-more, list-none}
 use Rattle.kin_rules.proofs.exposure_lists.list_of.Goals as goal
 use Rattle.kin_rules.proofs.exposure_lists.list_of.Goals.{then-users-gt0+in_ok-push, else-users-gt0}

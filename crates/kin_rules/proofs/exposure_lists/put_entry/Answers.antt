@@ -1,5 +1,4 @@
-use Rattle.std.proofs.Common.{◌≡◌, ◌<◌, length, subst, List, ℕ, arith}
-use Rattle.kin_ids.specs.Users.{tag_cmp}
+use Rattle.std.proofs.Common.{arith}
 use Rattle.kin_rules.proofs.ExposureSteps.{put-row, keep-rows}
 use Rattle.kin_rules.proofs.exposure_lists.put_entry.Goals as goal
 

@@ -1,4 +1,4 @@
-use Rattle.std.proofs.Common.{◌∙◌, sym}
+use Rattle.std.proofs.Common.{◌∙◌}
 use Rattle.kin_rules.proofs.ExposureSteps.{no-rows}
 use Rattle.kin_rules.proofs.exposure_lists.rows_of_tags.Goals as goal
 

@@ -1,4 +1,4 @@
-use Rattle.std.proofs.Common.{◌∙◌, ap, map, List}
+use Rattle.std.proofs.Common.{◌∙◌, ap, map}
 use Rattle.kin_rules.specs.declared.pull_rules.Facts.{Facts}
 use Rattle.kin_rules.proofs.ScratchReads.{following-are}
 use Rattle.kin_rules.proofs.scratches.numbers_of.Goals as goal

@@ -1,54 +1,13 @@
-use Rattle.std.proofs.Common.{◌≡◌, ◌≤◌, ◌^◌, ◌∙◌, ap, sym, subst, length, map, List, ℕ}
+use Rattle.std.proofs.Common.{◌∙◌, ap, sym, subst, length, map, List, ℕ}
 use Rattle.std.proofs.lemmas.List.{length-map}
 use Rattle.kin_ids.specs.declared.ids.User.{User}
 use Rattle.kin_graph.specs.Views.{AreVertices}
 use Rattle.kin_rules.specs.Columns.{AreOf, column_of, columns_of}
-use Rattle.kin_rules.specs.LayerTables.{facts_seen}
 use Rattle.kin_rules.specs.Nets.{hops_of, close_of}
 use Rattle.kin_rules.specs.Ranks.{rank}
 use Rattle.kin_rules.specs.Scratches.{column_by, in_seen, out_seen, users_seen}
-use Rattle.kin_rules.proofs.ScratchReads.{IsEvaluated, all-used, result-is}
+use Rattle.kin_rules.proofs.ScratchReads.{all-used, result-is}
 use Rattle.kin_rules.proofs.scratches.scratch_by.Goals as goal
-
-pub numbers_of-requires-clause-vertices : goal.numbers_of-requires-clause-vertices
-numbers_of-requires-clause-vertices g c =
-    let v = g.V.View.seen c.args.view.now in
-    let index = c.in_ok-index.ensures ∙ c.as_slice.ensures.value in
-    let are : AreVertices (g.V.View.seen c.args.view.now) c.in_ok-users.users.items = record { ascend = c.in_ok-users.ensures.ascend; all = c.in_ok-users.ensures.vertices } in
-    subst (λ (us : List User). AreVertices (g.V.View.seen c.args.view.now) us) (sym index) are
-
-pub numbers_of-requires-clause-facts : goal.numbers_of-requires-clause-facts
-numbers_of-requires-clause-facts g c =
-    let v = g.V.View.seen c.args.view.now in
-    let index = c.in_ok-index.ensures ∙ c.as_slice.ensures.value in
-    c.as_slice-3.ensures.value ∙ c.in_ok-facts.ensures ∙ ap (map (facts_seen v)) (c.as_slice-2.ensures.value ∙ sym index)
-
-pub tag_rows-requires-clause-vertices : goal.tag_rows-requires-clause-vertices
-tag_rows-requires-clause-vertices g c =
-    let v = g.V.View.seen c.args.view.now in
-    let index = c.in_ok-index.ensures ∙ c.as_slice.ensures.value in
-    let are : AreVertices (g.V.View.seen c.args.view.now) c.in_ok-users.users.items = record { ascend = c.in_ok-users.ensures.ascend; all = c.in_ok-users.ensures.vertices } in
-    subst (λ (us : List User). AreVertices (g.V.View.seen c.args.view.now) us) (sym index) are
-
-pub tag_rows-requires-clause-facts : goal.tag_rows-requires-clause-facts
-tag_rows-requires-clause-facts g c =
-    let v = g.V.View.seen c.args.view.now in
-    let index = c.in_ok-index.ensures ∙ c.as_slice.ensures.value in
-    c.as_slice-4.ensures.value ∙ c.in_ok-facts.ensures ∙ ap (map (facts_seen v)) (c.as_slice-2.ensures.value ∙ sym index)
-
-pub walks_of-requires-clause-vertices : goal.walks_of-requires-clause-vertices
-walks_of-requires-clause-vertices g c =
-    let v = g.V.View.seen c.args.view.now in
-    let index = c.in_ok-index.ensures ∙ c.as_slice.ensures.value in
-    let are : AreVertices (g.V.View.seen c.args.view.now) c.in_ok-users.users.items = record { ascend = c.in_ok-users.ensures.ascend; all = c.in_ok-users.ensures.vertices } in
-    subst (λ (us : List User). AreVertices (g.V.View.seen c.args.view.now) us) (sym index) are
-
-pub walks_of-requires-clause-small : goal.walks_of-requires-clause-small
-walks_of-requires-clause-small g c =
-    let v = g.V.View.seen c.args.view.now in
-    let index = c.in_ok-index.ensures ∙ c.as_slice.ensures.value in
-    let are : AreVertices (g.V.View.seen c.args.view.now) c.in_ok-users.users.items = record { ascend = c.in_ok-users.ensures.ascend; all = c.in_ok-users.ensures.vertices } in
-    subst (λ (us : List User). length us ≤ 2 ^ 27) (sym index) (c.requires.small c.in_ok-users.users.items are)
 
 pub invariant_of-result : goal.invariant_of-result
 invariant_of-result g c =

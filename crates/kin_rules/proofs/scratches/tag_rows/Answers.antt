@@ -1,7 +1,6 @@
-use Rattle.std.proofs.Common.{◌≡◌, ◌∙◌, ap, sym, map, List, ℕ}
+use Rattle.std.proofs.Common.{◌∙◌, ap, sym, map, List, ℕ}
 use Rattle.std.specs.Prelude.{count_by}
 use Rattle.kin_rules.specs.declared.exposure_rules.UseK.{UseK}
-use Rattle.kin_rules.specs.declared.numbers.KCount.{KCount}
 use Rattle.kin_rules.specs.Exposure.{exposures}
 use Rattle.kin_rules.specs.ExposureLists.{counted, ks_of}
 use Rattle.kin_rules.specs.ExposureRule.{is_entry}

@@ -1,4 +1,4 @@
-use Rattle.std.proofs.Common.{◌≡◌, ◌<◌, ◌∙◌, length, get_or, None, arith}
+use Rattle.std.proofs.Common.{◌<◌, ◌∙◌, length, None, arith}
 use Rattle.std.proofs.lemmas.List.{get_or_default}
 use Rattle.kin_rules.specs.Columns.{column_of}
 use Rattle.kin_rules.proofs.ColumnReads.{value-there}

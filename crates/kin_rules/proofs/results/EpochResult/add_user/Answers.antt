@@ -1,8 +1,8 @@
-use Rattle.std.proofs.Common.{◌≡◌, ◌∙◌, ap, sym, subst, refl, length, map, List, ℕ}
+use Rattle.std.proofs.Common.{◌∙◌, ap, sym, subst, length, map, List, ℕ}
 use Rattle.std.specs.List.{insert}
 use Rattle.kin_ids.specs.declared.ids.User.{User}
 use Rattle.kin_ids.specs.Users.{user_cmp}
-use Rattle.kin_rules.specs.Columns.{AreOf, columns_of, widened}
+use Rattle.kin_rules.specs.Columns.{AreOf, widened}
 use Rattle.kin_rules.specs.Results.{ColumnView}
 use Rattle.kin_rules.specs.Spots.{WouldStandAt}
 use Rattle.kin_rules.proofs.ResultSets.{within-all, adds-user, added-tabular, user-moved}

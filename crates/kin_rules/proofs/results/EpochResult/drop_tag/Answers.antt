@@ -1,8 +1,7 @@
-use Rattle.std.proofs.Common.{◌≡◌, ◌∙◌, sym, subst, refl, List, ℕ}
-use Rattle.kin_ids.specs.declared.ids.User.{User}
-use Rattle.kin_ids.specs.Users.{user_cmp, tag_cmp}
+use Rattle.std.proofs.Common.{sym, subst, refl}
+use Rattle.kin_ids.specs.Users.{tag_cmp}
 use Rattle.kin_rules.specs.Results.{ResultView}
-use Rattle.kin_rules.specs.Spots.{StandsAt, WouldStandAt}
+use Rattle.kin_rules.specs.Spots.{StandsAt}
 use Rattle.kin_rules.proofs.ResultSets.{tag-moved, drops-tag, dropped-tabular}
 use Rattle.kin_rules.proofs.results.EpochResult.drop_tag.Goals as goal
 

@@ -1,6 +1,3 @@
-use Rattle.std.proofs.Common.{◌≡◌, ◌∙◌, subst, sym, List}
-use Rattle.kin_ids.specs.Graph.{empty_graph}
-use Rattle.kin_rules.specs.Results.{ResultView, IsResult, IsTabular, first_result}
 use Rattle.kin_rules.proofs.ResultReads.{first-tabular, first-is}
 use Rattle.kin_rules.proofs.results.EpochResult.new.Goals as goal
 

@@ -1,8 +1,6 @@
-use Rattle.std.proofs.Common.{◌≡◌, ◌∙◌, sym, subst, refl, List, ℕ}
-use Rattle.kin_ids.specs.declared.ids.User.{User}
-use Rattle.kin_ids.specs.Users.{user_cmp, tag_cmp}
-use Rattle.kin_rules.specs.Results.{ResultView}
-use Rattle.kin_rules.specs.Spots.{StandsAt, WouldStandAt}
+use Rattle.std.proofs.Common.{subst, List, ℕ}
+use Rattle.kin_ids.specs.Users.{tag_cmp}
+use Rattle.kin_rules.specs.Spots.{StandsAt}
 use Rattle.kin_rules.proofs.ResultSets.{expo-moved, sets-expo}
 use Rattle.kin_rules.proofs.results.EpochResult.set_expo.Goals as goal
 

@@ -1,4 +1,4 @@
-use Rattle.std.proofs.Common.{◌≡◌, ◌<◌, sym, subst, refl, List, ℕ, arith}
+use Rattle.std.proofs.Common.{◌<◌, sym, subst, refl, List, ℕ, arith}
 use Rattle.kin_ids.specs.Users.{tag_cmp}
 use Rattle.kin_rules.specs.Results.{ResultView}
 use Rattle.kin_rules.specs.ResultChanges.{SetsTag}

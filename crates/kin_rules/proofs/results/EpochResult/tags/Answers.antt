@@ -1,4 +1,4 @@
-use Rattle.std.proofs.Common.{◌≡◌, ◌∙◌, ap, nat_lt, List, ℕ}
+use Rattle.std.proofs.Common.{◌∙◌, ap, nat_lt, List, ℕ}
 use Rattle.kin_rules.specs.Results.{ResultView, has_tag, tag_users_in}
 use Rattle.kin_rules.proofs.ResultReads.{tag-in-use}
 use Rattle.kin_rules.proofs.results.EpochResult.tags.Goals as goal
