@@ -3,7 +3,7 @@
 
 use kin_ids::{Status, Which};
 use kin_io::{FileShelf, StdSink};
-use kin_replay::replay;
+use kin_replay::{demo, replay};
 use kin_words::{Command, pick};
 use std::alloc::Global;
 use std::process::ExitCode;
@@ -29,6 +29,9 @@ fn run<R: Files + Print + Alloc<A = Global>>(rt: &R, words: &[String]) -> Status
             &mut StdSink::new(rt),
         )
         .status,
+        (Some(Command::Demo), [_, rest @ ..]) => {
+            demo(rt.alloc(), rest, &mut StdSink::new(rt)).status
+        }
         _ => Status::Usage,
     }
 }

@@ -14,3 +14,5 @@ mod Drains
 mod Wholes
 mod Ended
 mod OneJob
+mod WorldDrains
+mod DemoHistory

@@ -36,6 +36,11 @@ has-mined old new e _ has keeps = tt
 pub keeps-history : (old new : WorldView) (e : Event) (o : Outcome) → HasHistory old → Keeps old e o new → HasHistory new
 keeps-history old new e o has keeps = (has.0, e ∷ has.1, (keeps has.0 has.1 has.2).1)
 
+-- where want of memory for an event leaves a world
+pub near-kept : (set : Setting) (h : List Event) (old new : WorldView) (e : Event) → KeptAtMemory old e new → Stands set old h → StandsNear true set new h
+near-kept set h old new event.Mine kept s = ⊎_elim (λ (a : Stands set new h). inl a) (λ (b : Stands set new (event.Begin ∷ h)). inr (refl, b)) (kept set h s)
+near-kept set h old new _ kept s = inl (subst (λ (w : WorldView). Stands set w h) (sym kept) s)
+
 module _ (options : OptionWords) (trace : Bool) where
   -- the block that an answer prints stays as it is, whatever comes later
   block-later : (set : Setting) (h whole : List Event) (e : Event) → 0 < set.parts → IsLater set (e ∷ h) whole → (o : Outcome) → outcome_of set h e ≡ o
@@ -75,10 +80,6 @@ module _ (options : OptionWords) (trace : Bool) where
       record { count = 1; within = omega arith; stands = inl (keeps set h s).1; grew = (0, omega arith, grew_none taken) }
 
   -- memory was wanting for the event
-  near-kept : (set : Setting) (h : List Event) (old new : WorldView) (e : Event) → KeptAtMemory old e new → Stands set old h → StandsNear true set new h
-  near-kept set h old new event.Mine kept s = ⊎_elim (λ (a : Stands set new h). inl a) (λ (b : Stands set new (event.Begin ∷ h)). inr (refl, b)) (kept set h s)
-  near-kept set h old new _ kept s = inl (subst (λ (w : WorldView). Stands set w h) (sym kept) s)
-
   pub plays-starved : (old new : WorldView) (number : Option ℕ) (e : Event) (taken : Option (List ℕ)) → KeptAtMemory old e new
       → PlaysFront true options trace (record { number = number; event = e } ∷ []) (record { world = old; taken = taken }) (record { world = new; taken = taken })
   plays-starved old new number e taken kept set h whole s l =

@@ -6,11 +6,12 @@ use Rattle.std.proofs.lemmas.Bool.{true≢false, and_parts, leb-true}
 use Rattle.std.proofs.lemmas.Option.{option_and_then_some}
 use Rattle.std.proofs.lemmas.List.Splits.{length-slice_split}
 use Rattle.kin_ids.specs.declared.ids.User.{User}
+use Rattle.kin_ids.specs.declared.options.DemoWords.{DemoWords}
 use Rattle.kin_ids.specs.declared.options.ReplayWords.{ReplayWords}
 use Rattle.kin_ids.specs.Texts.{number_of, user_of}
 use Rattle.kin_words.specs.Items.{are_distinct, value_at}
 use Rattle.kin_words.specs.Values.{or_default, in_range, number_from, parts_of, is_filled, are_files, names_of, users_of, landmarks_of}
-use Rattle.kin_words.specs.Commands.{AsksReplay}
+use Rattle.kin_words.specs.Commands.{AsksReplay, AsksDemo}
 use Rattle.kin_replay.specs.Files.{Text}
 use Rattle.kin_replay.specs.Loaded.{AreInRange}
 
@@ -82,3 +83,9 @@ in-range words w asks =
       few_parts = parts.1;
       few_landmarks = landmarks-few (value_at (codes "landmarks") asks.items) w.options.landmarks r.landmarks;
     }
+
+-- what the words of `demo` ask for has at most 500000 records
+pub demo-few : (words : List Text) (w : DemoWords) → AsksDemo words w → w.records ≤ 500000
+demo-few words w asks =
+    option_and_then_some (number_from 1 500000) (value_at (codes "records") asks.items) w.records asks.chooses.records
+    (λ text is e. (number-within 1 500000 (number_of (2 ^ 64) text) w.records e).1)

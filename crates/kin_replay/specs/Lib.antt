@@ -8,3 +8,5 @@ pub mod Counts
 pub mod Mined
 pub mod Left
 pub mod FeedRows
+pub mod Drained
+pub mod Demos

@@ -37,8 +37,8 @@ fn trace_of(
     }
 }
 
-// The block of the epoch that was just mined.
-fn block_of(
+/// The block of the epoch that was just mined.
+pub(crate) fn block_of(
     alloc: Global,
     world: &World,
     k: Epoch,

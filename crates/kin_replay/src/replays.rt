@@ -26,8 +26,8 @@ pub struct Run {
     pub world: Option<World>,
 }
 
-// A run that ended before its first event.
-fn unbegun(status: Status) -> Run
+/// A run that ended before its first event.
+pub(crate) fn unbegun(status: Status) -> Run
     ensures status { result.status ≡ status }
     ensures world { result.world ≡ None }
 {

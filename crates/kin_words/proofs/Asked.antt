@@ -95,3 +95,15 @@ replay_once words v w a b = λ i. record {
 
     at : (n : Text) → value_at n a.items ≡ value_at n b.items
     at n = ap (value_at n) same
+
+pub demo_once : (words : List Text) (v w : DemoWords) → AsksDemo words v → AsksDemo words w → v ≡ w
+demo_once words v w a b = λ i. record {
+  seed = some_is v.seed w.seed (sym a.chooses.seed ∙ ap (option_and_then (number_from 0 (2 ^ 64 - 1))) (at (codes "seed")) ∙ b.chooses.seed) i;
+  records = some_is v.records w.records (sym a.chooses.records ∙ ap (option_and_then (number_from 1 500000)) (at (codes "records")) ∙ b.chooses.records) i;
+}
+  where
+    same : a.items ≡ b.items
+    same = one_line (codes "demo") demo_names.options demo_names.flags demo_are (no_flag demo_names.options) words a.items b.items a.line b.line
+
+    at : (n : Text) → value_at n a.items ≡ value_at n b.items
+    at n = ap (value_at n) same
