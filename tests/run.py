@@ -122,8 +122,20 @@ def where_nothing_can_be_written(program):
     yield Check('a full standard output and no feed', CANNOT_READ._replace(stdout=None), full({'s': ONE}))
 
 
+def piped(program):
+    """How the program ends where a feed is a pipe."""
+    read, write = os.pipe()
+    os.write(write, b'f,1,2\n')
+    os.close(write)
+    try:
+        return answer_over(program, [*WORDS[:-1], f'/dev/fd/{read}'], {'s': ONE}, pass_fds=[read])
+    finally:
+        os.close(read)
+
+
 def others(program):
     """What a table of texts can't say."""
+    yield Check('a pipe for a feed', CANNOT_READ, piped(program))
     yield Check('a word that is no text', USAGE, answer(program, [*WORDS, b'\xff']))
     yield Check('a folder for a feed', CANNOT_READ, answer_over(program, [*WORDS[:-1], '.'], {'s': ONE}))
 
