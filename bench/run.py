@@ -4,7 +4,7 @@
     bench/run.py [PROGRAM]            parts, by the program of crates/kin_bench, which `rt run -- chains 1 forward`
                                       builds there
     bench/run.py --command [PROGRAM]  whole commands, by the launcher at the top of the repository where PROGRAM is left
-                                      out; `demo` last, which ends it as long as that isn't built
+                                      out
 
 A line has a job, its seconds, microseconds for each item, and its peak memory, which is no less than Python's own,
 about 15 MiB. A line of a difference is what a job takes beyond another one: `worlds N steps` is `forward` beyond

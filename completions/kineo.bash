@@ -1,5 +1,4 @@
 # Completes the words of kineo in bash: `. completions/kineo.bash`, then `kineo re<TAB>`.
-# `demo` isn't built yet: the program answers it with `kineo: usage`.
 
 # The options of a command.
 _kineo_options() {

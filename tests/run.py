@@ -27,7 +27,7 @@ from texts import text_of
 
 STAGES = ('replay', 'demo')
 # How far the program is.
-STAGE = 'replay'
+STAGE = 'demo'
 
 STORED_SEEDS = range(1, 301)
 FIRST = os.path.join(TOP, 'examples', 'first')

@@ -1,7 +1,7 @@
 -- How much an epoch adds at the first nodes.
 use Rattle.std.proofs.Common.{◌≡◌, ℕ, suc, ◌+◌, ◌-◌, ◌<◌, ◌≤◌, get_or, cond, Bool, true, false, List, [], ◌∷◌, ◌++◌, length, take, drop, refl, ap, ◌∙◌, arith}
 use Rattle.std.specs.List.{sum_by, count_by}
-use Rattle.std.proofs.lemmas.List.{length-append, length-take, length-drop, take_more, get_or_read_under}
+use Rattle.std.proofs.lemmas.List.{length-append, length-take, length-drop, take_more, take_all, get_or_read_under}
 use Rattle.std.proofs.lemmas.List.Sums.{sum_by-cons, sum_by-append}
 use Rattle.kin_ids.specs.declared.ops.Record.{Record}
 use Rattle.kin_ids.specs.Operations.{is_bad}
@@ -78,4 +78,28 @@ count-more feeds was now i records bad from to more feed within lt at first last
       bad_are = λ e. let a = c.bad_are e in let b = bad-more feeds e was now i lo hi in omega (arith, a, b, all);
       few = let a = c.few in let b = feeds-more feeds i lt in omega (arith, a, b, first, last, hi);
       some = let a = c.some in let b = bad-few feeds 0 was now i lo hi in omega (arith, a, b, all, first, last);
+    }
+
+-- how many records of feeds are Bad, and no more than there are
+pub record AreCounted (feeds : List (List Record)) (bad : ℕ) : Type 0 where
+  pub bad_are : bad ≡ sum_by (λ (feed : List Record). count_by is_bad feed) feeds
+  pub few : bad ≤ sum_by (λ (feed : List Record). length feed) feeds
+
+-- one feed more
+pub bad-next : (feeds : List (List Record)) (i bad more : ℕ) (feed : List Record) → i < length feeds → feed ≡ get_or feeds i feed → more ≡ count_by is_bad (between feed 0 (length feed))
+    → AreCounted (take i feeds) bad → AreCounted (take (i + 1) feeds) (bad + more)
+bad-next feeds i bad more feed lt at some c =
+    let size = λ (f : List Record). length f in
+    let bads = λ (f : List Record). count_by is_bad f in
+    let here = get_or feeds i feed in
+    let whole : between feed 0 (length feed) ≡ feed = take_all (length feed - 0) feed (omega arith) in
+    let is : more ≡ count_by is_bad here = some ∙ ap (λ (f : List Record). count_by is_bad f) (whole ∙ at) in
+    let low = count-le is_bad here in
+    let a = sum_by-append bads (take i feeds) (here ∷ []) in
+    let b = sum_by-cons bads here [] in
+    let x = sum_by-append size (take i feeds) (here ∷ []) in
+    let y = sum_by-cons size here [] in
+    rw (take_more feeds i feed lt) record {
+      bad_are = let n = c.bad_are in omega (arith, n, is, a, b);
+      few = let n = c.few in omega (arith, n, is, low, x, y);
     }

@@ -1,9 +1,14 @@
 -- The history of a generated job: its events are in range, and its last epoch was just mined.
-use Rattle.std.proofs.Common.{◌≡◌, ◌≢◌, ℕ, suc, ◌+◌, ◌<◌, ◌≤◌, ◌⊎◌, inl, inr, ⊎_elim, Bool, true, false, cond, List, [], ◌∷◌, ◌++◌, All, Option, Some, None, get_or, length, take, drop, refl, sym, ap, subst, ◌∙◌, arith}
+use Rattle.std.proofs.Common.{◌≡◌, ◌≢◌, ℕ, suc, ◌+◌, ◌-◌, ◌/◌, ◌<◌, ◌≤◌, ◌⊎◌, inl, inr, ⊎_elim, Bool, true, false, cond, List, [], ◌∷◌, ◌++◌, All, Option, Some, None, get_or, length, map, take, drop, refl, sym, ap, subst, ◌∙◌, arith}
 use Rattle.std.proofs.lemmas.Bool.{cond-false, cases_lt}
+use Rattle.std.specs.List.{sum_by}
 use Rattle.std.proofs.lemmas.List.{length-append, take_all, take-append-le}
+use Rattle.std.proofs.lemmas.List.Sums.{sum_by-cons}
+use Rattle.std.proofs.Math.Nat.{div-le_self}
 use Rattle.std.proofs.Math.Seq.{take-append_seam, take-add, drop-append_seam}
 use Rattle.kin_ids.specs.declared.options.DemoWords.{DemoWords}
+use Rattle.kin_ids.specs.declared.ops.Record.{Record}
+use Rattle.kin_feed.specs.Records.{records_of}
 use Rattle.kin_script.specs.declared.events.Event.{Event}
 use Rattle.kin_script.specs.declared.events.Event.TheVariants as event
 use Rattle.kin_script.specs.Schedules.{IsInRange}
@@ -13,7 +18,11 @@ use Rattle.kin_history.specs.Mining.{mined, is_open}
 use Rattle.kin_history.specs.Drain.{drain}
 use Rattle.kin_history.proofs.Drained.{drained}
 use Rattle.kin_history.proofs.Mined.{mined-order}
+use Rattle.kin_gen.specs.Feeds.{gen_feed, gen_feeds}
+use Rattle.kin_gen.specs.Laws.{RecordsLaw}
 use Rattle.kin_gen.specs.Rounds.{gen_events, rounds, opening, agreement}
+use Rattle.kin_hub.specs.Hubs.{cuts_in}
+use Rattle.kin_world.proofs.Cutting.{cuts_is}
 use Rattle.kin_world.specs.Worlds.{WorldView}
 use Rattle.kin_world.specs.Runs.{RunsInPart}
 use Rattle.kin_world.specs.Stands.{Stands, last_begun}
@@ -56,19 +65,20 @@ module _ (w : DemoWords) where
   history-is = after-append [] events (drain set told)
 
   -- the last cut is accepted, since every partition has reported
-  last-cut : (h : List Event) → cuts set (after h (agreement ++ (event.Cut None ∷ []))) ≡ cuts set h + 1
+  last-cut : (h : List Event) → cuts set (after (after h agreement) (event.Cut None ∷ [])) ≡ cuts set h + 1
   last-cut h = refl
+
+  told-is : told ≡ after (after (after [] (rounds w.records w.records 1 (opening w.seed))) agreement) (event.Cut None ∷ [])
+  unfolding gen_events
+  told-is =
+      let first = rounds w.records w.records 1 (opening w.seed) in
+      after-append [] (first ++ agreement) (event.Cut None ∷ []) ∙ ap (λ (g : List Event). after g (event.Cut None ∷ [])) (after-append [] first agreement)
 
   some-cut : 0 < cuts set told
   some-cut =
-      let first = rounds w.records w.records 1 (opening w.seed) in
-      let last = agreement ++ (event.Cut None ∷ []) in
-      let is : cuts set told ≡ cuts set (after [] first) + 1 = split ∙ last-cut (after [] first) in
+      let first = after [] (rounds w.records w.records 1 (opening w.seed)) in
+      let is : cuts set told ≡ cuts set first + 1 = ap (cuts set) told-is ∙ last-cut first in
       omega (arith, is)
-    where
-      split : cuts set told ≡ cuts set (after (after [] (rounds w.records w.records 1 (opening w.seed))) (agreement ++ (event.Cut None ∷ [])))
-      unfolding gen_events
-      split = ap (cuts set) (after-append [] (rounds w.records w.records 1 (opening w.seed)) (agreement ++ (event.Cut None ∷ [])))
 
   pub some-epoch : 0 < demo_epochs w
   some-epoch =
@@ -122,3 +132,29 @@ module _ (w : DemoWords) where
   -- nothing happened yet
   pub no-front : (old : WorldView) → Stands set old [] → StandsForDemoFront w (Some old)
   no-front old s = (0, omega arith, inl s)
+
+-- the generated feeds have few records
+pub few-records : RecordsLaw → (seed n : ℕ) → n ≤ 500000 → sum_by (λ (f : List Record). length f) (map records_of (gen_feeds seed n)) ≤ 2097152
+few-records law seed n le =
+    let size = λ (f : List Record). length f in
+    let feed = λ (i : ℕ). records_of (gen_feed seed n i) in
+    let a = sum_by-cons size (feed 0) (feed 1 ∷ feed 2 ∷ []) in
+    let b = sum_by-cons size (feed 1) (feed 2 ∷ []) in
+    let c = sum_by-cons size (feed 2) [] in
+    let x = law seed n 0 le (omega arith) in
+    let y = law seed n 1 le (omega arith) in
+    let z = law seed n 2 le (omega arith) in
+    let p = div-le_self (n + 2 - 0) 3 in
+    let q = div-le_self (n + 2 - 1) 3 in
+    let r = div-le_self (n + 2 - 2) 3 in
+    omega (arith, a, b, c, x, y, z, p, q, r, le)
+
+-- as many epochs are cut as the job has
+pub epochs-are : (w : DemoWords) (world : WorldView) → Stands (demo_setting w) world (demo_history w) → cuts_in world.hub ≡ demo_epochs w
+epochs-are w world s = cuts_is (demo_setting w) world (demo_history w) s
+
+-- a world that stands for the history stands for a front of it
+pub whole-front : (w : DemoWords) (world : WorldView) → Stands (demo_setting w) world (demo_history w) → StandsForDemoFront w (Some world)
+whole-front w world s =
+    let es = demo_events w in
+    (length es, omega arith, inl (subst (λ (xs : List Event). Stands (demo_setting w) world (after [] xs)) (sym (take_all (length es) es (omega arith))) s))

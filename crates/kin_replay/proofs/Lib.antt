@@ -16,3 +16,4 @@ mod Ended
 mod OneJob
 mod WorldDrains
 mod DemoHistory
+mod DemoEnds

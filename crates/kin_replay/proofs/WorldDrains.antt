@@ -65,7 +65,7 @@ module _ (old now new : WorldView) (e : Event) (next : (set : Setting) (h : List
 -- nothing is left
 pub goes-all : (old now : WorldView) (o : Option Event) → ((e : Event) → o ≡ Some e → ⊥) → ((set : Setting) (h : List Event) → Stands set now h → drain set h ≡ drain_by set h o)
     → Goes old now → DrainsWorld old now
-goes-all old now (Some e) none next goes = absurd (none e refl)
+goes-all old now (Some e) none next goes set h s = absurd (none e refl)
 goes-all old now None none next goes set h s =
     let d = goes set h s in
     let all : drain set h ≡ d.done = d.rest ∙ ap (λ (es : List Event). d.done ++ es) (next set (after h d.done) d.stands) ∙ append-nil d.done in

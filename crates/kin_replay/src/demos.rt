@@ -42,6 +42,17 @@ fn write<O: Sink>(out: &mut O, text: &[u8]) -> Result<(), Stop>
     Ok(())
 }
 
+// A run that ended with this world.
+fn ended(status: Status, world: World) -> Run
+    ensures status { result.status ≡ status }
+    ensures world { result.world ≡ Some world }
+{
+    Run {
+        status,
+        world: Some(world),
+    }
+}
+
 // Runs the job that these words ask for.
 fn run_demo<O: Sink>(alloc: Global, words: DemoWords, out: &mut O) -> Run
     requires few { words.records ≤ 500000 }
@@ -58,17 +69,13 @@ fn run_demo<O: Sink>(alloc: Global, words: DemoWords, out: &mut O) -> Run
     let Ok(mut world) = open_generated(alloc, words) else {
         return unbegun(Status::Memory);
     };
-    let status = match told(alloc, &mut world, words) {
-        Ok(text) => match write(out, text.as_slice()) {
-            Ok(()) => Status::Done,
-            Err(_) => Status::Write,
-        },
-        Err(Memory) => Status::Memory,
+    let Ok(text) = told(alloc, &mut world, words) else {
+        return ended(Status::Memory, world);
     };
-    Run {
-        status,
-        world: Some(world),
-    }
+    let Ok(()) = write(out, text.as_slice()) else {
+        return ended(Status::Write, world);
+    };
+    ended(Status::Done, world)
 }
 
 /// Makes a job of feeds and events from the seed and the number of records that the words choose, runs its events and the drain, and
