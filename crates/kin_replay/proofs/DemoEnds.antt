@@ -1,5 +1,5 @@
 -- What holds of the run of a generated job holds of whatever the words ask for.
-use Rattle.std.proofs.Common.{◌≡◌, ℕ, ◌⊎◌, inl, inr, Bool, true, List, refl, subst}
+use Rattle.std.proofs.Common.{◌≡◌, inl, inr, true, List, refl, subst}
 use Rattle.kin_ids.specs.declared.options.DemoWords.{DemoWords}
 use Rattle.kin_ids.specs.declared.statuses.Status.{Status}
 use Rattle.kin_ids.specs.declared.statuses.Status.TheVariants as status

@@ -1,5 +1,5 @@
 -- The history of a generated job: its events are in range, and its last epoch was just mined.
-use Rattle.std.proofs.Common.{◌≡◌, ◌≢◌, ℕ, suc, ◌+◌, ◌-◌, ◌/◌, ◌<◌, ◌≤◌, ◌⊎◌, inl, inr, ⊎_elim, Bool, true, false, cond, List, [], ◌∷◌, ◌++◌, All, Option, Some, None, get_or, length, map, take, drop, refl, sym, ap, subst, ◌∙◌, arith}
+use Rattle.std.proofs.Common.{◌≡◌, ℕ, ◌+◌, ◌-◌, ◌<◌, ◌≤◌, inl, inr, ⊎_elim, Bool, true, false, List, [], ◌∷◌, ◌++◌, All, Some, None, get_or, length, map, take, drop, refl, sym, ap, subst, ◌∙◌, arith}
 use Rattle.std.proofs.lemmas.Bool.{cond-false, cases_lt}
 use Rattle.std.specs.List.{sum_by}
 use Rattle.std.proofs.lemmas.List.{length-append, take_all, take-append-le}
@@ -113,10 +113,12 @@ module _ (w : DemoWords) where
       let d = part set told s in
       let rest = drain set told in
       let front : take (length events + d.0) (events ++ rest) ≡ events ++ take d.0 rest =
-          take-add (length events) d.0 (events ++ rest) ∙ ap (λ (t : List Event). t ++ take d.0 (drop (length events) (events ++ rest))) (take-append_seam events rest)
-          ∙ ap (λ (t : List Event). events ++ take d.0 t) (drop-append_seam events rest) in
-      (length events + d.0, (let n = d.1 in let all = length-append events rest in omega (arith, n, all)),
-      subst (λ (es : List Event). StandsNear true set new (after [] es)) (sym front) (subst (StandsNear true set new) (sym (after-append [] events (take d.0 rest))) d.2))
+      take-add (length events) d.0 (events ++ rest) ∙ ap (λ (t : List Event). t ++ take d.0 (drop (length events) (events ++ rest))) (take-append_seam events rest)
+      ∙ ap (λ (t : List Event). events ++ take d.0 t) (drop-append_seam events rest) in (
+        length events + d.0,
+        (let n = d.1 in let all = length-append events rest in omega (arith, n, all)),
+        subst (λ (es : List Event). StandsNear true set new (after [] es)) (sym front) (subst (StandsNear true set new) (sym (after-append [] events (take d.0 rest))) d.2),
+      )
 
   -- a front of the events ran
   pub run-front : (old new : WorldView) → Stands set old [] → RunsInPart old events new → StandsForDemoFront w (Some new)

@@ -1,5 +1,5 @@
 -- A world that is drained event by event.
-use Rattle.std.proofs.Common.{◌≡◌, ℕ, suc, ◌+◌, ◌<◌, ◌≤◌, true, List, [], ◌∷◌, ◌++◌, Option, Some, None, length, take, refl, sym, ap, subst, ◌∙◌, append_assoc, arith}
+use Rattle.std.proofs.Common.{◌≡◌, suc, ◌<◌, true, List, [], ◌∷◌, ◌++◌, Option, Some, None, length, take, refl, sym, ap, subst, ◌∙◌, append_assoc, arith}
 use Rattle.std.proofs.lemmas.List.{append-nil, length-append}
 use Rattle.std.proofs.Math.Seq.{take-append_seam}
 use Rattle.kin_script.specs.declared.events.Event.{Event}
@@ -58,9 +58,11 @@ module _ (old now new : WorldView) (e : Event) (next : (set : Setting) (h : List
       let d = goes set h s in
       let rest = drain set (after h d.done) in
       let front : take (length d.done) (drain set h) ≡ d.done = ap (take (length d.done)) d.rest ∙ take-append_seam d.done rest in
-      let all = ap (λ (es : List Event). length es) d.rest in
-      (length d.done, (let n = length-append d.done rest in omega (arith, n, all)),
-      subst (λ (es : List Event). StandsNear true set new (after h es)) (sym front) (near-kept set (after h d.done) now new e kept d.stands))
+      let all = ap (λ (es : List Event). length es) d.rest in (
+        length d.done,
+        (let n = length-append d.done rest in omega (arith, n, all)),
+        subst (λ (es : List Event). StandsNear true set new (after h es)) (sym front) (near-kept set (after h d.done) now new e kept d.stands),
+      )
 
 -- nothing is left
 pub goes-all : (old now : WorldView) (o : Option Event) → ((e : Event) → o ≡ Some e → ⊥) → ((set : Setting) (h : List Event) → Stands set now h → drain set h ≡ drain_by set h o)

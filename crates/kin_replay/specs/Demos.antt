@@ -1,5 +1,5 @@
 -- The command `demo`: a job that is made from a number, its history, and what is printed of it.
-use Rattle.std.specs.Prelude.{ℕ, ◌≡◌, ◌≤◌, true, List, [], ◌∷◌, ◌++◌, Option, Some, None, length, map, take, sum_by, count_by, codes}
+use Rattle.std.specs.Prelude.{ℕ, ◌≤◌, true, List, [], ◌∷◌, ◌++◌, Option, Some, None, length, map, take, sum_by, count_by, codes}
 use Rattle.std.specs.Fmt.{decimal}
 use Rattle.kin_ids.specs.declared.ids.User.{User}
 use Rattle.kin_ids.specs.declared.ops.Record.{Record}

@@ -17,6 +17,13 @@ pub record Scene : Type 0 where
   pub world : WorldView
   pub taken : Option (List ℕ)
 
+abbrev pub scene : WorldView → Option (List ℕ) → Scene
+scene world taken = record { world = world; taken = taken }
+
+-- one event as a run, with the number of its line where it has one
+abbrev pub ran : Option ℕ → Event → List Ran
+ran number event = record { number = number; event = event } ∷ []
+
 -- the second history goes on from the first
 pub record IsLater (set : Setting) (was now : List Event) : Type 0 where
   pub more : List Event

@@ -46,7 +46,8 @@ pub(crate) fn block_of(
 ) -> Result<Vec<u8>, Memory>
     requires mined { HasJustMined world.now k.0 }
     requires landmarks { world.now.miner.landmarks ≡ options.now.landmarks }
-    ensures { IfOk result (λ text. (set : Setting) (h : List Event) → Stands set world.now h → last_begun set h ≡ k.0 → text.items ≡ block_after set options.now h k.0) }
+    ensures { IfOk result (λ text. (set : Setting) (h : List Event) → Stands set world.now h
+        → last_begun set h ≡ k.0 → text.items ≡ block_after set options.now h k.0) }
 {
     let hub = world.hub();
     let Some(cut) = hub.cut_of(k) else {
@@ -69,7 +70,9 @@ pub(crate) fn text_of(
 ) -> Result<Vec<u8>, Memory>
     requires mined { HasMined world.now outcome.now }
     requires landmarks { world.now.miner.landmarks ≡ printing.now.options.landmarks }
-    ensures { IfOk result (λ text. (set : Setting) (h : List Event) → Stands set world.now h → IsOfHistory set h outcome.now → text.items ≡ shown_answer set printing.now.options printing.now.trace h number outcome.now) }
+    ensures { IfOk result (λ text. (set : Setting) (h : List Event) → Stands set world.now h
+        → IsOfHistory set h outcome.now
+        → text.items ≡ shown_answer set printing.now.options printing.now.trace h number outcome.now) }
 {
     let mut text = trace_of(alloc, printing.trace, number, outcome)?;
     if let Outcome::Mined(k) = outcome {

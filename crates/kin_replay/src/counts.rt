@@ -31,8 +31,12 @@ fn position(cut: Option<&Cut>, node: usize) -> u64
 pub(crate) fn counts_of(feeds: &[Feed], was: Option<&Cut>, now: &Cut) -> Counts
     requires within { AreWithin feeds.now (position_in (option_map (λ c. c.now) was)) (position_in (Some now.now)) }
     requires few { sum_by (λ (feed : List Record). length feed) feeds.now ≤ 2097152 }
-    ensures records { (e : ℕ) → result.records ≡ length (of_epoch feeds.now e (position_in (option_map (λ c. c.now) was.entry)) (position_in (Some now.now)) (length feeds.now)) }
-    ensures bad { (e : ℕ) → result.bad ≡ count_by (λ x. is_bad x.content) (of_epoch feeds.now e (position_in (option_map (λ c. c.now) was.entry)) (position_in (Some now.now)) (length feeds.now)) }
+    ensures records { (e : ℕ)
+        → result.records ≡ length (of_epoch feeds.now e (position_in (option_map
+        (λ c. c.now) was.entry)) (position_in (Some now.now)) (length feeds.now)) }
+    ensures bad { (e : ℕ)
+        → result.bad ≡ count_by (λ x. is_bad x.content) (of_epoch feeds.now e (position_in (option_map
+        (λ c. c.now) was.entry)) (position_in (Some now.now)) (length feeds.now)) }
 {
     let mut counts = Counts { records: 0, bad: 0 };
     for node in 0..feeds.len() {

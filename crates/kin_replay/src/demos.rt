@@ -58,7 +58,8 @@ fn run_demo<O: Sink>(alloc: Global, words: DemoWords, out: &mut O) -> Run
     requires few { words.records ≤ 500000 }
     ensures done { result.status ≡ Status.Done → DemoDone words (O.taken out.old) (O.taken out.new) result.world }
     ensures flushed { result.status ≡ Status.Done → O.flushed out.new ≡ option_map (λ _. true) (O.flushed out.old) }
-    ensures write { result.status ≡ Status.Write → DemoUnwritten words (O.taken out.old) (O.taken out.new) result.world }
+    ensures write { result.status ≡ Status.Write
+        → DemoUnwritten words (O.taken out.old) (O.taken out.new) result.world }
     ensures write_cause { result.status ≡ Status.Write → Rose (O.faults out.old) (O.faults out.new) }
     ensures calm { (result.status ≡ Status.Write → ⊥) → O.faults out.new ≡ O.faults out.old }
     ensures memory { result.status ≡ Status.Memory → StandsForDemoFront words result.world }
@@ -78,8 +79,10 @@ fn run_demo<O: Sink>(alloc: Global, words: DemoWords, out: &mut O) -> Run
     ended(Status::Done, world)
 }
 
-/// Makes a job of feeds and events from the seed and the number of records that the words choose, runs its events and the drain, and
-/// writes the number of epochs and of bad records, and the block of the last epoch. The same words give the same bytes everywhere.
+/// Makes a job of feeds and events from the seed and the number of records that the words choose, runs its events and
+/// the drain, and
+/// writes the number of epochs and of bad records, and the block of the last epoch. The same words give the same bytes
+/// everywhere.
 /// Making the job is linear in its records; each event costs what it costs the world.
 pub fn demo<O: Sink>(alloc: Global, words: &[String], out: &mut O) -> Run
     // At Done all of the report was written and flushed, and the world stands for the history; no call failed.
@@ -94,7 +97,8 @@ pub fn demo<O: Sink>(alloc: Global, words: &[String], out: &mut O) -> Run
     ensures calm { (result.status ≡ Status.Write → ⊥) → O.faults out.new ≡ O.faults out.old }
 
     // At Memory nothing was written, and the world, where there is one, stands for a front of the history.
-    ensures memory { result.status ≡ Status.Memory → ForDemo (map string_bytes words.now) (λ w. StandsForDemoFront w result.world) }
+    ensures memory { result.status ≡ Status.Memory
+        → ForDemo (map string_bytes words.now) (λ w. StandsForDemoFront w result.world) }
     ensures starved { result.status ≡ Status.Memory → out.new ≡ out.old }
 
     // Usage comes exactly where the words ask for nothing, and then nothing was done. No other refusal comes.
@@ -106,7 +110,8 @@ pub fn demo<O: Sink>(alloc: Global, words: &[String], out: &mut O) -> Run
     ensures late_world { has_run result.status ≡ true → is_some result.world ≡ true }
 
     // Where nothing is wrong, only want of memory comes in the way.
-    ensures complete { ForDemo (map string_bytes words.now) (λ w. (Rose (O.faults out.old) (O.faults out.new) → ⊥) → IsDoneOrMemory result.status) }
+    ensures complete { ForDemo (map string_bytes words.now) (λ w. (Rose (O.faults out.old) (O.faults out.new) → ⊥)
+        → IsDoneOrMemory result.status) }
 {
     match read_demo(alloc, words) {
         Ok(words) => run_demo(alloc, words, out),

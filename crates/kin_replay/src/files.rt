@@ -34,7 +34,8 @@ fn load_file<F: Shelf>(
     ensures whole { IfOk result (λ bytes. IfSome (F.content shelf.old name.now) (λ file. bytes.items ≡ file)) }
     ensures within { IfOk result (λ bytes. length bytes.items ≤ limit) }
     ensures read { IsErrOf result Refusal.Read → Rose (F.faults shelf.old name.now) (F.faults shelf.new name.now) }
-    ensures limit { IsErrOf result (Refusal.Limit which) → IfSome (F.content shelf.old name.now) (λ file. limit < length file) }
+    ensures limit { IsErrOf result (Refusal.Limit which)
+        → IfSome (F.content shelf.old name.now) (λ file. limit < length file) }
     ensures err { IfErr result (IsOfLoad which) }
     ensures content { (n : List ℕ) → F.content shelf.new n ≡ F.content shelf.old n }
     ensures counts { (n : List ℕ) → F.faults shelf.old n ≤ F.faults shelf.new n }
@@ -54,11 +55,13 @@ pub(crate) fn load_feeds<F: Shelf>(
     shelf: &mut F,
     names: &[Name],
 ) -> Result<Vec<Vec<u8>>, Refusal>
-    ensures whole { IfOk result (λ all. (files : Files) → Told (F.content shelf.old) names.now files → map (λ f. f.items) all.items ≡ map files names.now) }
+    ensures whole { IfOk result (λ all. (files : Files) → Told (F.content shelf.old) names.now files
+        → map (λ f. f.items) all.items ≡ map files names.now) }
     ensures within { IfOk result (λ all. sum_by (λ (f : List ℕ). length f) (map (λ f. f.items) all.items) ≤ 33554432) }
     ensures count { IfOk result (λ all. length all.items ≡ length names.now) }
     ensures read { IsErrOf result Refusal.Read → SomeRose (F.faults shelf.old) (F.faults shelf.new) names.now }
-    ensures limit { IsErrOf result (Refusal.Limit Which.FeedBytes) → (files : Files) → Told (F.content shelf.old) names.now files → 33554432 < feed_bytes files names.now }
+    ensures limit { IsErrOf result (Refusal.Limit Which.FeedBytes) → (files : Files)
+        → Told (F.content shelf.old) names.now files → 33554432 < feed_bytes files names.now }
     ensures err { IfErr result (IsOfLoad Which.FeedBytes) }
     ensures content { (n : List ℕ) → F.content shelf.new n ≡ F.content shelf.old n }
     ensures counts { (n : List ℕ) → F.faults shelf.old n ≤ F.faults shelf.new n }
@@ -96,7 +99,8 @@ fn read_one(alloc: Global, bytes: &[u8], limit: u64) -> Result<Feed, Refusal>
 pub(crate) fn read_feeds(alloc: Global, files: &[Vec<u8>]) -> Result<Vec<Feed>, Refusal>
     ensures ok { IfOk result (λ feeds. feeds.items ≡ map records_of (map (λ f. f.items) files.now)) }
     ensures within { IfOk result (λ feeds. sum_by (λ (feed : List Record). length feed) feeds.items ≤ 2097152) }
-    ensures many { IsErrOf result (Refusal.Limit Which.Records) → 2097152 < sum_by (λ (feed : List Record). length feed) (map records_of (map (λ f. f.items) files.now)) }
+    ensures many { IsErrOf result (Refusal.Limit Which.Records)
+        → 2097152 < sum_by (λ (feed : List Record). length feed) (map records_of (map (λ f. f.items) files.now)) }
     ensures err { IfErr result IsOfRecords }
 {
     let mut left = RECORDS;
@@ -121,7 +125,8 @@ pub(crate) fn load_lines<F: Shelf>(
     nodes: u16,
     parts: u16,
 ) -> Result<Vec<Line>, Refusal>
-    ensures script { IfOk result (λ script. IfSome (F.content shelf.old name.now) (λ file. IsScript nodes parts file script.items)) }
+    ensures script { IfOk result (λ script. IfSome (F.content shelf.old name.now)
+        (λ file. IsScript nodes parts file script.items)) }
     ensures range { IfOk result (λ script. All (λ (line : Line). IsInRange nodes parts line.event) script.items) }
     ensures few { IfOk result (λ script. length script.items ≤ 1048576) }
     ensures fits { OnOk result (IfSome (F.content shelf.old name.now) (λ file. length file ≤ 33554432)) }

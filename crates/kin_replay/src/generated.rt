@@ -74,7 +74,11 @@ fn drain(world: &mut World) -> Result<(), Memory>
 }
 
 /// The generated events, and then the drain.
-pub(crate) fn run_generated(alloc: Global, world: &mut World, words: DemoWords) -> Result<(), Memory>
+pub(crate) fn run_generated(
+    alloc: Global,
+    world: &mut World,
+    words: DemoWords,
+) -> Result<(), Memory>
     requires few { words.records ≤ 500000 }
     requires stands { Stands (demo_setting words) world.old [] }
     ensures ok { OnOk result (Stands (demo_setting words) world.new (demo_history words)) }

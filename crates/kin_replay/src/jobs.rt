@@ -31,12 +31,15 @@ fn load_records<F: Shelf>(
     shelf: &mut F,
     names: &[Name],
 ) -> Result<Vec<Feed>, Refusal>
-    ensures feeds { IfOk result (λ feeds. (files : Files) → Told (F.content shelf.old) names.now files → feeds.items ≡ feeds_in files names.now) }
-    ensures fit { OnOk result ((files : Files) → Told (F.content shelf.old) names.now files → FeedsFit names.now files) }
+    ensures feeds { IfOk result (λ feeds. (files : Files) → Told (F.content shelf.old) names.now files
+        → feeds.items ≡ feeds_in files names.now) }
+    ensures fit { OnOk result ((files : Files) → Told (F.content shelf.old) names.now files
+        → FeedsFit names.now files) }
     ensures count { IfOk result (λ feeds. length feeds.items ≡ length names.now) }
     ensures within { IfOk result (λ feeds. sum_by (λ (feed : List Record). length feed) feeds.items ≤ 2097152) }
     ensures read { IsErrOf result Refusal.Read → SomeRose (F.faults shelf.old) (F.faults shelf.new) names.now }
-    ensures err { IfErr result (λ refusal. (files : Files) → Told (F.content shelf.old) names.now files → IsOfFeeds names.now files refusal) }
+    ensures err { IfErr result (λ refusal. (files : Files) → Told (F.content shelf.old) names.now files
+        → IsOfFeeds names.now files refusal) }
     ensures content { (n : List ℕ) → F.content shelf.new n ≡ F.content shelf.old n }
     ensures counts { (n : List ℕ) → F.faults shelf.old n ≤ F.faults shelf.new n }
     ensures calm { (IsErrOf result Refusal.Read → ⊥) → (n : List ℕ) → F.faults shelf.new n ≡ F.faults shelf.old n }
@@ -52,11 +55,14 @@ pub(crate) fn read_job<F: Shelf>(
     words: ReplayWords,
 ) -> Result<Job, Refusal>
     requires ranges { AreInRange words }
-    ensures job { IfOk result (λ job. (files : Files) → Told (F.content shelf.old) (names_of words) files → IsJob words files (job_of job)) }
-    ensures fit { OnOk result ((files : Files) → Told (F.content shelf.old) (names_of words) files → FilesFit words files) }
+    ensures job { IfOk result (λ job. (files : Files) → Told (F.content shelf.old) (names_of words) files
+        → IsJob words files (job_of job)) }
+    ensures fit { OnOk result ((files : Files) → Told (F.content shelf.old) (names_of words) files
+        → FilesFit words files) }
     ensures ready { IfOk result (λ job. IsReady (job_of job)) }
     ensures read { IsErrOf result Refusal.Read → SomeRose (F.faults shelf.old) (F.faults shelf.new) (names_of words) }
-    ensures err { IfErr result (λ refusal. (files : Files) → Told (F.content shelf.old) (names_of words) files → IsOfFiles words files refusal) }
+    ensures err { IfErr result (λ refusal. (files : Files) → Told (F.content shelf.old) (names_of words) files
+        → IsOfFiles words files refusal) }
     ensures counts { (n : List ℕ) → F.faults shelf.old n ≤ F.faults shelf.new n }
     ensures calm { (IsErrOf result Refusal.Read → ⊥) → (n : List ℕ) → F.faults shelf.new n ≡ F.faults shelf.old n }
 {

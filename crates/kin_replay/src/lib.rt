@@ -1,4 +1,5 @@
-//! The commands: `replay`, words, feeds and a schedule in, a report out; and `demo`, over a job that is made from a number.
+//! The commands: `replay`, words, feeds and a schedule in, a report out; and `demo`, over a job that is made from a
+//! number.
 #![tactic(auto)]
 
 mod blocks;

@@ -8,7 +8,7 @@ ghost use Rattle.kin_hub.specs.Hubs.{cuts_in};
 ghost use Rattle.kin_world.specs.Worlds.{HasRoom, setting_of};
 ghost use Rattle.kin_world.specs.Stands.{HasHistory};
 ghost use Rattle.kin_report.specs.Report.{scheduled};
-ghost use Rattle.kin_replay.specs.Plays.{Plays, PlaysFront, PlaysDrain, PlaysDrainFront, PlaysWhole, PlaysWholeFront, MayUnflush};
+ghost use Rattle.kin_replay.specs.Plays.{Plays, PlaysFront, PlaysDrain, PlaysDrainFront, PlaysWhole, PlaysWholeFront, MayUnflush, ran, scene};
 
 use crate::blocks::{Printing, text_of};
 use kin_ids::{Failed, Memory};
@@ -61,9 +61,12 @@ fn play<O: Sink>(
     requires room { HasRoom world.old event }
     requires has { HasHistory world.old }
     requires landmarks { world.old.miner.landmarks ≡ printing.now.options.landmarks }
-    ensures ok { OnOk result (Plays printing.now.options printing.now.trace (record { number = number; event = event } ∷ []) (record { world = world.old; taken = O.taken out.old }) (record { world = world.new; taken = O.taken out.new })) }
-    ensures write { IsErrOf result Stop.Write → PlaysFront false printing.now.options printing.now.trace (record { number = number; event = event } ∷ []) (record { world = world.old; taken = O.taken out.old }) (record { world = world.new; taken = O.taken out.new }) }
-    ensures memory { IsErrOf result Stop.Memory → PlaysFront true printing.now.options printing.now.trace (record { number = number; event = event } ∷ []) (record { world = world.old; taken = O.taken out.old }) (record { world = world.new; taken = O.taken out.new }) }
+    ensures ok { OnOk result (Plays printing.now.options printing.now.trace (ran number event)
+        (scene world.old (O.taken out.old)) (scene world.new (O.taken out.new))) }
+    ensures write { IsErrOf result Stop.Write → PlaysFront false printing.now.options printing.now.trace (ran number event)
+        (scene world.old (O.taken out.old)) (scene world.new (O.taken out.new)) }
+    ensures memory { IsErrOf result Stop.Memory → PlaysFront true printing.now.options printing.now.trace (ran number event)
+        (scene world.old (O.taken out.old)) (scene world.new (O.taken out.new)) }
     ensures setting { OnOk result (setting_of world.new ≡ setting_of world.old) }
     ensures has { OnOk result (HasHistory world.new) }
     ensures cuts { cuts_in world.new.hub ≤ cuts_in world.old.hub + 1 }
@@ -89,9 +92,12 @@ fn play_lines<O: Sink>(
     requires room { cuts_in world.old.hub + length lines.now ≤ u32.MAX }
     requires has { HasHistory world.old }
     requires landmarks { world.old.miner.landmarks ≡ printing.now.options.landmarks }
-    ensures ok { OnOk result (Plays printing.now.options printing.now.trace (scheduled lines.now) (record { world = world.old; taken = O.taken out.old }) (record { world = world.new; taken = O.taken out.new })) }
-    ensures write { IsErrOf result Stop.Write → PlaysFront false printing.now.options printing.now.trace (scheduled lines.now) (record { world = world.old; taken = O.taken out.old }) (record { world = world.new; taken = O.taken out.new }) }
-    ensures memory { IsErrOf result Stop.Memory → PlaysFront true printing.now.options printing.now.trace (scheduled lines.now) (record { world = world.old; taken = O.taken out.old }) (record { world = world.new; taken = O.taken out.new }) }
+    ensures ok { OnOk result (Plays printing.now.options printing.now.trace (scheduled lines.now)
+        (scene world.old (O.taken out.old)) (scene world.new (O.taken out.new))) }
+    ensures write { IsErrOf result Stop.Write → PlaysFront false printing.now.options printing.now.trace (scheduled lines.now)
+        (scene world.old (O.taken out.old)) (scene world.new (O.taken out.new)) }
+    ensures memory { IsErrOf result Stop.Memory → PlaysFront true printing.now.options printing.now.trace (scheduled lines.now)
+        (scene world.old (O.taken out.old)) (scene world.new (O.taken out.new)) }
     ensures setting { OnOk result (setting_of world.new ≡ setting_of world.old) }
     ensures has { OnOk result (HasHistory world.new) }
     ensures flushed { OnOk result (MayUnflush (O.flushed out.old) (O.flushed out.new)) }
@@ -113,9 +119,12 @@ fn play_drain<O: Sink>(
 ) -> Result<(), Stop>
     requires has { HasHistory world.old }
     requires landmarks { world.old.miner.landmarks ≡ printing.now.options.landmarks }
-    ensures ok { OnOk result (PlaysDrain printing.now.options printing.now.trace (record { world = world.old; taken = O.taken out.old }) (record { world = world.new; taken = O.taken out.new })) }
-    ensures write { IsErrOf result Stop.Write → PlaysDrainFront false printing.now.options printing.now.trace (record { world = world.old; taken = O.taken out.old }) (record { world = world.new; taken = O.taken out.new }) }
-    ensures memory { IsErrOf result Stop.Memory → PlaysDrainFront true printing.now.options printing.now.trace (record { world = world.old; taken = O.taken out.old }) (record { world = world.new; taken = O.taken out.new }) }
+    ensures ok { OnOk result (PlaysDrain printing.now.options printing.now.trace
+        (scene world.old (O.taken out.old)) (scene world.new (O.taken out.new))) }
+    ensures write { IsErrOf result Stop.Write → PlaysDrainFront false printing.now.options printing.now.trace
+        (scene world.old (O.taken out.old)) (scene world.new (O.taken out.new)) }
+    ensures memory { IsErrOf result Stop.Memory → PlaysDrainFront true printing.now.options printing.now.trace
+        (scene world.old (O.taken out.old)) (scene world.new (O.taken out.new)) }
     ensures flushed { OnOk result (MayUnflush (O.flushed out.old) (O.flushed out.new)) }
     ensures cause { IsErrOf result Stop.Write → Rose (O.faults out.old) (O.faults out.new) }
     ensures calm { (IsErrOf result Stop.Write → ⊥) → O.faults out.new ≡ O.faults out.old }
@@ -138,9 +147,12 @@ pub(crate) fn play_all<O: Sink>(
     requires room { cuts_in world.old.hub + length lines.now ≤ u32.MAX }
     requires has { HasHistory world.old }
     requires landmarks { world.old.miner.landmarks ≡ printing.now.options.landmarks }
-    ensures ok { OnOk result (PlaysWhole printing.now.options printing.now.trace lines.now (record { world = world.old; taken = O.taken out.old }) (record { world = world.new; taken = O.taken out.new })) }
-    ensures write { IsErrOf result Stop.Write → PlaysWholeFront false printing.now.options printing.now.trace lines.now (record { world = world.old; taken = O.taken out.old }) (record { world = world.new; taken = O.taken out.new }) }
-    ensures memory { IsErrOf result Stop.Memory → PlaysWholeFront true printing.now.options printing.now.trace lines.now (record { world = world.old; taken = O.taken out.old }) (record { world = world.new; taken = O.taken out.new }) }
+    ensures ok { OnOk result (PlaysWhole printing.now.options printing.now.trace lines.now
+        (scene world.old (O.taken out.old)) (scene world.new (O.taken out.new))) }
+    ensures write { IsErrOf result Stop.Write → PlaysWholeFront false printing.now.options printing.now.trace lines.now
+        (scene world.old (O.taken out.old)) (scene world.new (O.taken out.new)) }
+    ensures memory { IsErrOf result Stop.Memory → PlaysWholeFront true printing.now.options printing.now.trace lines.now
+        (scene world.old (O.taken out.old)) (scene world.new (O.taken out.new)) }
     ensures flushed { OnOk result (O.flushed out.new ≡ option_map (λ _. true) (O.flushed out.old)) }
     ensures cause { IsErrOf result Stop.Write → Rose (O.faults out.old) (O.faults out.new) }
     ensures calm { (IsErrOf result Stop.Write → ⊥) → O.faults out.new ≡ O.faults out.old }

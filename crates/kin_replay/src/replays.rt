@@ -53,13 +53,16 @@ fn run_words<F: Shelf, O: Sink>(
         Asked words files (λ j. EndsUnwritten j (O.taken out.old) (O.taken out.new) result.world)) }
     ensures write_cause { result.status ≡ Status.Write → Rose (O.faults out.old) (O.faults out.new) }
     ensures calm_sink { (result.status ≡ Status.Write → ⊥) → O.faults out.new ≡ O.faults out.old }
-    ensures memory { result.status ≡ Status.Memory → IfSome result.world (λ world. ForTold (F.content shelf.old) words (λ files.
+    ensures memory { result.status ≡ Status.Memory
+        → IfSome result.world (λ world. ForTold (F.content shelf.old) words (λ files.
         Asked words files (λ j. EndsStarved j (O.taken out.old) (O.taken out.new) (Some world)))) }
     ensures starved { result.status ≡ Status.Memory → result.world ≡ None → O.taken out.new ≡ O.taken out.old }
     ensures read { result.status ≡ Status.Read → SomeRose (F.faults shelf.old) (F.faults shelf.new) (names_of words) }
-    ensures calm_shelf { (result.status ≡ Status.Read → ⊥) → (n : List ℕ) → F.faults shelf.new n ≡ F.faults shelf.old n }
+    ensures calm_shelf { (result.status ≡ Status.Read → ⊥) → (n : List ℕ)
+        → F.faults shelf.new n ≡ F.faults shelf.old n }
     ensures usage { result.status ≡ Status.Usage → ⊥ }
-    ensures refused { is_refusal result.status ≡ true → ForTold (F.content shelf.old) words (λ files. IsRefused words files result.status) }
+    ensures refused { is_refusal result.status ≡ true
+        → ForTold (F.content shelf.old) words (λ files. IsRefused words files result.status) }
     ensures exact { (s : Status) → ForTold (F.content shelf.old) words (λ files.
         NoneRose (F.faults shelf.old) (F.faults shelf.new) (names_of words) → IsRefused words files s → IsOrMemory s result.status) }
     ensures early { is_early result.status ≡ true → out.new ≡ out.old }
@@ -75,8 +78,10 @@ fn run_words<F: Shelf, O: Sink>(
     }
 }
 
-/// Runs a schedule over feeds, as the words say: reads the words, then the feeds, then the schedule, and then runs its events and
-/// the drain, writing each block as its epoch is mined. Reading costs what the bytes do; each event costs what it costs the world.
+/// Runs a schedule over feeds, as the words say: reads the words, then the feeds, then the schedule, and then runs its
+/// events and
+/// the drain, writing each block as its epoch is mined. Reading costs what the bytes do; each event costs what it costs
+/// the world.
 pub fn replay<F: Shelf, O: Sink>(alloc: Global, words: &[String], shelf: &mut F, out: &mut O) -> Run
     // At Done all of the report was written and flushed, and the world stands for the history; no call failed.
     ensures done { result.status ≡ Status.Done → ForJob (map string_bytes words.now) (F.content shelf.old)
@@ -98,15 +103,18 @@ pub fn replay<F: Shelf, O: Sink>(alloc: Global, words: &[String], shelf: &mut F,
     // Only a read of one of the files that failed leads to Read.
     ensures read { result.status ≡ Status.Read → (w : ReplayWords) → AsksReplay (map string_bytes words.now) w
         → SomeRose (F.faults shelf.old) (F.faults shelf.new) (names_of w) }
-    ensures calm_shelf { (result.status ≡ Status.Read → ⊥) → (n : List ℕ) → F.faults shelf.new n ≡ F.faults shelf.old n }
+    ensures calm_shelf { (result.status ≡ Status.Read → ⊥) → (n : List ℕ)
+        → F.faults shelf.new n ≡ F.faults shelf.old n }
 
     // Usage comes exactly where the words ask for nothing.
     ensures usage { result.status ≡ Status.Usage → (w : ReplayWords) → AsksReplay (map string_bytes words.now) w → ⊥ }
     ensures usage_kept { result.status ≡ Status.Usage → shelf.new ≡ shelf.old }
-    ensures words { ((w : ReplayWords) → AsksReplay (map string_bytes words.now) w → ⊥) → IsUsageOrMemory result.status }
+    ensures words { ((w : ReplayWords) → AsksReplay (map string_bytes words.now) w → ⊥)
+        → IsUsageOrMemory result.status }
 
     // Limit and Script come exactly where the files are refused so.
-    ensures refused { is_refusal result.status ≡ true → ForAsked (map string_bytes words.now) (F.content shelf.old) (λ w files.
+    ensures refused { is_refusal result.status ≡ true
+        → ForAsked (map string_bytes words.now) (F.content shelf.old) (λ w files.
         IsRefused w files result.status) }
     ensures exact { (s : Status) → ForAsked (map string_bytes words.now) (F.content shelf.old) (λ w files.
         NoneRose (F.faults shelf.old) (F.faults shelf.new) (names_of w) → IsRefused w files s → IsOrMemory s result.status) }

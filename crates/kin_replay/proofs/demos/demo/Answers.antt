@@ -1,9 +1,7 @@
-use Rattle.std.proofs.Common.{rules, ◌≡◌, map, string_bytes}
+use Rattle.std.proofs.Common.{rules, map, string_bytes}
 use Rattle.std.specs.Result.{IsErrOf}
-use Rattle.kin_io.specs.Outside.{Rose}
 use Rattle.kin_words.specs.declared.faults.WordsFault.TheVariants as fault
 use Rattle.kin_replay.specs.Demos.{DemoDone, DemoUnwritten, StandsForDemoFront}
-use Rattle.kin_replay.specs.Ends.{IsDoneOrMemory}
 use Rattle.kin_replay.proofs.DemoEnds.{for-demo, run-well}
 use Rattle.kin_replay.proofs.Ranges.{demo-few}
 use Rattle.kin_replay.proofs.demos.demo.Goals as goal

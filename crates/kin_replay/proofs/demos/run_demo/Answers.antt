@@ -1,4 +1,4 @@
-use Rattle.std.proofs.Common.{◌≡◌, ℕ, List, Option, Some, sym, subst, ◌∙◌}
+use Rattle.std.proofs.Common.{Option, sym, subst, ◌∙◌}
 use Rattle.kin_io.specs.Outside.{Grew, GrewBySome}
 use Rattle.kin_world.specs.Worlds.{WorldView}
 use Rattle.kin_replay.specs.Demos.{DemoDone, DemoUnwritten}

@@ -1,6 +1,5 @@
-use Rattle.std.proofs.Common.{ℕ, List, length, take, ap, subst, ◌∙◌, count_by}
+use Rattle.std.proofs.Common.{ℕ, ap, ◌∙◌, count_by}
 use Rattle.std.proofs.lemmas.List.{take_all}
-use Rattle.kin_ids.specs.declared.ops.Record.{Record}
 use Rattle.kin_ids.specs.Operations.{is_bad}
 use Rattle.kin_ids.specs.Order.{between}
 use Rattle.kin_replay.specs.Demos.{bad_of}

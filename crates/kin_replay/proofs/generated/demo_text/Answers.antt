@@ -1,13 +1,9 @@
 use Rattle.std.proofs.Common.{◌≡◌, ◌≤◌, ℕ, List, ◌++◌, length, sym, ap, subst, ◌∙◌}
 use Rattle.std.specs.List.{sum_by}
-use Rattle.kin_ids.specs.declared.ids.User.{User}
 use Rattle.kin_ids.specs.declared.ops.Record.{Record}
 use Rattle.kin_ids.specs.declared.options.OptionWords.{OptionWords}
-use Rattle.kin_hub.specs.Hubs.{HubView, cuts_in}
+use Rattle.kin_hub.specs.Hubs.{cuts_in}
 use Rattle.kin_report.specs.Report.{block_after}
-use Rattle.kin_world.proofs.Cutting.{cuts_is}
-use Rattle.kin_world.specs.Stands.{Stands}
-use Rattle.kin_world.specs.Worlds.{WorldView}
 use Rattle.kin_replay.specs.Demos.{bad_of, demo_epochs, demo_history, demo_line, demo_options, demo_setting}
 use Rattle.kin_replay.specs.Mined.{HasJustMined}
 use Rattle.kin_replay.proofs.DemoHistory.{just-mined, last-begun, epochs-are}
@@ -35,5 +31,5 @@ returns c =
     let bad : c.count_bad.result ≡ bad_of set.feeds = c.count_bad.ensures ∙ ap bad_of (c.feeds.ensures ∙ c.requires.stands.over.feeds) in
     let line = c.in_ok-text.ensures ∙ ap (λ (n : ℕ). demo_line w n c.count_bad.result) epochs ∙ ap (λ (n : ℕ). demo_line w (demo_epochs w) n) bad in
     let block = c.as_slice.ensures.value ∙ c.in_ok-block.ensures set h c.requires.stands (last-begun w ∙ sym epochs)
-        ∙ ap (λ (o : OptionWords). block_after set o h c.cuts-epochs.result) c.in_ok-options.ensures ∙ ap (λ (n : ℕ). block_after set demo_options h n) epochs in
+    ∙ ap (λ (o : OptionWords). block_after set o h c.cuts-epochs.result) c.in_ok-options.ensures ∙ ap (λ (n : ℕ). block_after set demo_options h n) epochs in
     c.in_ok-extend_from_slice.ensures.items ∙ ap (λ (t : List ℕ). t ++ c.as_slice.result.now) line ∙ ap (λ (t : List ℕ). demo_line w (demo_epochs w) (bad_of set.feeds) ++ t) block

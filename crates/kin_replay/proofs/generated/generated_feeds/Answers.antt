@@ -1,4 +1,4 @@
-use Rattle.std.proofs.Common.{◌≡◌, map, ap, ◌∙◌}
+use Rattle.std.proofs.Common.{map, ap, ◌∙◌}
 use Rattle.kin_feed.specs.Records.{records_of}
 use Rattle.kin_replay.proofs.generated.generated_feeds.Goals as goal
 
