@@ -41,6 +41,10 @@ pub use turns::Turn;
 pub use walks::walk_costs;
 
 #[cfg(test)]
+mod result_tests;
+#[cfg(test)]
+mod scratch_tests;
+#[cfg(test)]
 mod tests;
 #[cfg(test)]
 mod walk_tests;
