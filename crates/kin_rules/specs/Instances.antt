@@ -23,6 +23,7 @@ hops_rule landmark = record { along = hops; mark = landmark; most = 1 }
 abbrev pub close_rule : User → Rule
 close_rule landmark = record { along = close; mark = landmark; most = 3 }
 
+-- the rule of a distance
 abbrev pub distance_rule : Distance → User → Rule
 distance_rule distance.Hops landmark = hops_rule landmark
 distance_rule distance.Close landmark = close_rule landmark
