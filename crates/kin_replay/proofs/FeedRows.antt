@@ -6,28 +6,28 @@ use Rattle.csv.specs.Reading.{strip_bom, records_from}
 use Rattle.kin_ids.specs.declared.ops.Record.{Record}
 use Rattle.kin_feed.specs.Records.{rows_of, record_of, records_of}
 use Rattle.kin_rules.specs.Costs.{least_cost}
-use Rattle.kin_report.specs.RowWords.{follow, tweet, tagged, bad, stamp, deliver, report, raise, cut, no_rules, setting, prints, text}
+use Rattle.kin_report.specs.RowWords.{follow, tweet, tagged, bad, stamp, deliver, report, raise, cut, all_rules, no_rules, setting, prints, text}
 use Rattle.kin_replay.specs.FeedRows.{IsAllBad, IsQuoted}
 
 abbrev bad_feed : List ℕ
-bad_feed = codes "f,3,3\nf,01,2\nt,5\nf,4294967296,1\n"
+bad_feed = codes "f,3,3\nf,01,2\nt,5\nf,4294967296,1\nt,5,#aaaaaaaaaaaaaaaaaaaaaaaaa\n"
 
 bad-rows : rows_of bad_feed
-    ≡ (codes "f" ∷ codes "3" ∷ codes "3" ∷ []) ∷ (codes "f" ∷ codes "01" ∷ codes "2" ∷ []) ∷ (codes "t" ∷ codes "5" ∷ []) ∷ (codes "f" ∷ codes "4294967296" ∷ codes "1" ∷ []) ∷ []
+    ≡ (codes "f" ∷ codes "3" ∷ codes "3" ∷ []) ∷ (codes "f" ∷ codes "01" ∷ codes "2" ∷ []) ∷ (codes "t" ∷ codes "5" ∷ []) ∷ (codes "f" ∷ codes "4294967296" ∷ codes "1" ∷ []) ∷ (codes "t" ∷ codes "5" ∷ codes "#aaaaaaaaaaaaaaaaaaaaaaaaa" ∷ []) ∷ []
 unfolding strip_bom records_from next_record
 bad-rows = refl
 
-bad-records : records_of bad_feed ≡ bad ∷ bad ∷ bad ∷ bad ∷ []
+bad-records : records_of bad_feed ≡ bad ∷ bad ∷ bad ∷ bad ∷ bad ∷ []
 unfolding digits
 bad-records = ap (map record_of) bad-rows ∙ refl
 
-bad-printed : prints (setting ((bad ∷ bad ∷ bad ∷ bad ∷ []) ∷ []) 1 []) (record no_rules { ins = true }) false (stamp 0 4 ∷ deliver 0 0 0 4 ∷ report 0 ∷ raise 0 ∷ cut ∷ [])
-    ≡ text (codes "epoch 1 0@4 records 4 bad 4" ∷ [])
+bad-printed : prints (setting ((bad ∷ bad ∷ bad ∷ bad ∷ bad ∷ []) ∷ []) 1 []) all_rules false (stamp 0 5 ∷ deliver 0 0 0 5 ∷ report 0 ∷ raise 0 ∷ cut ∷ [])
+    ≡ text (codes "epoch 1 0@5 records 5 bad 5" ∷ [])
 unfolding digits least_cost
 bad-printed = refl
 
 pub all-bad : IsAllBad
-all-bad = ap (λ (feed : List Record). prints (setting (feed ∷ []) 1 []) (record no_rules { ins = true }) false (stamp 0 4 ∷ deliver 0 0 0 4 ∷ report 0 ∷ raise 0 ∷ cut ∷ [])) bad-records ∙ bad-printed
+all-bad = ap (λ (feed : List Record). prints (setting (feed ∷ []) 1 []) all_rules false (stamp 0 5 ∷ deliver 0 0 0 5 ∷ report 0 ∷ raise 0 ∷ cut ∷ [])) bad-records ∙ bad-printed
 
 abbrev quoted_feed : List ℕ
 quoted_feed = codes "f,1,2\r\n\r\n\"t\",\"5\",\"#a\"\r\n"
