@@ -13,7 +13,7 @@ use kin_feed::Feed;
 use kin_hub::{CommitRefused, CutRefused, Hub, Raised};
 use kin_ids::{Epoch, Inc, IngestId, Memory, PartId, Piece, User};
 use kin_ingest::{Ingest, RestartRefused, StampRefused};
-use kin_mine::{Miner, TurnRefused};
+use kin_mine::{BeginRefused, Miner, TurnRefused};
 use kin_ops::piece_of;
 use kin_script::{Event, Outcome, Refusal};
 use std::alloc::Global;
@@ -307,8 +307,10 @@ impl Core {
                 self.is_open = true;
                 Ok(None)
             }
-            // The epoch is the next one and nobody is active, so only memory can lack.
-            Err(_refused) => Err(Memory),
+            // Nobody is active where no epoch is open, and the epoch is the one after that begun last.
+            Err(BeginRefused::Busy(_)) => unreachable!(),
+            Err(BeginRefused::NotNext(_)) => unreachable!(),
+            Err(BeginRefused::Memory) => Err(Memory),
         }
     }
 
