@@ -12,16 +12,10 @@ ghost use Rattle.kin_replay.specs.Refusals.{IsOfLoad, IsOfRecords, IsOfScript};
 
 use crate::refusals::Refusal;
 use kin_feed::{Feed, FeedFault, read_feed};
-use kin_ids::{Name, Which};
+use kin_ids::{MOST_BYTES, MOST_RECORDS, Name, Which};
 use kin_io::{LoadFault, Shelf, load};
 use kin_script::{Line, ScriptFault, read_script};
 use std::alloc::Global;
-
-// The most bytes of all feeds together, and of a schedule.
-const BYTES: u64 = 33554432;
-
-// The most records of all feeds together.
-const RECORDS: u64 = 2097152;
 
 // A file of at most so many bytes.
 fn load_file<F: Shelf>(
@@ -67,7 +61,7 @@ pub(crate) fn load_feeds<F: Shelf>(
     ensures counts { (n : List ℕ) → F.faults shelf.old n ≤ F.faults shelf.new n }
     ensures calm { (IsErrOf result Refusal.Read → ⊥) → (n : List ℕ) → F.faults shelf.new n ≡ F.faults shelf.old n }
 {
-    let mut left = BYTES;
+    let mut left = MOST_BYTES;
     let Ok(mut all) = Vec::with_capacity(alloc, names.len()) else {
         return Err(Refusal::Memory);
     };
@@ -103,7 +97,7 @@ pub(crate) fn read_feeds(alloc: Global, files: &[Vec<u8>]) -> Result<Vec<Feed>, 
         → 2097152 < sum_by (λ (feed : List Record). length feed) (map records_of (map (λ f. f.items) files.now)) }
     ensures err { IfErr result IsOfRecords }
 {
-    let mut left = RECORDS;
+    let mut left = MOST_RECORDS;
     let Ok(mut feeds) = Vec::with_capacity(alloc, files.len()) else {
         return Err(Refusal::Memory);
     };
@@ -136,7 +130,7 @@ pub(crate) fn load_lines<F: Shelf>(
     ensures counts { (n : List ℕ) → F.faults shelf.old n ≤ F.faults shelf.new n }
     ensures calm { (IsErrOf result Refusal.Read → ⊥) → (n : List ℕ) → F.faults shelf.new n ≡ F.faults shelf.old n }
 {
-    let bytes = load_file(alloc, shelf, name, BYTES, Which::ScriptBytes)?;
+    let bytes = load_file(alloc, shelf, name, MOST_BYTES, Which::ScriptBytes)?;
     match read_script(alloc, bytes.as_slice(), nodes, parts) {
         Ok(script) => Ok(script),
         Err(ScriptFault::TooLong) => Err(Refusal::Limit(Which::ScriptLines)),
