@@ -86,7 +86,7 @@ only_to at (x ∷ ss) s t l h k e =
     (or_cases (same_stamp x s) (has ss s) h)
 
 -- no incarnation is past the last one
-last-inc : (set : Setting) (h : List Event) (i : ℕ) → inc set h i ≤ 65535
+pub last-inc : (set : Setting) (h : List Event) (i : ℕ) → inc set h i ≤ 65535
 last-inc set [] i = omega arith
 last-inc set (event.Restart j ∷ h) i =
     let most = last-inc set h i in

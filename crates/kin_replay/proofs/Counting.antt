@@ -1,20 +1,18 @@
 -- How much an epoch adds at the first nodes.
-use Rattle.std.proofs.Common.{◌≡◌, ℕ, suc, ◌+◌, ◌-◌, ◌<◌, ◌≤◌, get_or, cond, Bool, true, false, List, [], ◌∷◌, ◌++◌, length, take, drop, refl, ap, ◌∙◌, arith}
+use Rattle.std.proofs.Common.{◌≡◌, ℕ, suc, ◌+◌, ◌-◌, ◌<◌, ◌≤◌, get_or, cond, List, [], ◌∷◌, length, take, drop, refl, ap, ◌∙◌, arith}
 use Rattle.std.specs.List.{sum_by, count_by}
 use Rattle.std.proofs.lemmas.List.{length-append, length-take, length-drop, take_more, take_all, get_or_read_under}
-use Rattle.std.proofs.lemmas.List.Sums.{sum_by-cons, sum_by-append}
+use Rattle.std.proofs.lemmas.List.Sums.{count_by-le-length, sum_by-cons, sum_by-append}
 use Rattle.kin_ids.specs.declared.ops.Record.{Record}
 use Rattle.kin_ids.specs.Operations.{is_bad}
 use Rattle.kin_ids.specs.Order.{Entry, between, entries, feed_at, of_epoch}
 use Rattle.kin_ids.proofs.Joins.{length-entries}
+use Rattle.kin_rules.proofs.ExposureEntries.{count-append}
 use Rattle.kin_replay.specs.Counts.{AreWithin}
 
 -- so many records stand between two positions of a feed
 length-between : (feed : List Record) (from to : ℕ) → from ≤ to → to ≤ length feed → length (between feed from to) ≡ to - from
 length-between feed from to lo hi = let a = length-take (to - from) (drop from feed) in let b = length-drop from feed in omega (arith, a, b, lo, hi)
-
-count-append : {X : Type 0} (p : X → Bool) (xs ys : List X) → count_by p (xs ++ ys) ≡ count_by p xs + count_by p ys
-count-append p xs ys = sum_by-append (λ x. cond (p x) 1 0) xs ys
 
 -- the Bad ones among entries are those among their records
 bad-entries : (e i n : ℕ) (rs : List Record) → count_by (λ (x : Entry). is_bad x.content) (entries e i n rs) ≡ count_by is_bad rs
@@ -24,14 +22,6 @@ bad-entries e i n (r ∷ rs) =
     let b = sum_by-cons (λ (x : Record). cond (is_bad x) 1 0) r rs in
     let c = bad-entries e i (n + 1) rs in
     omega (arith, a, b, c)
-
-count-le : {X : Type 0} (p : X → Bool) (xs : List X) → count_by p xs ≤ length xs
-count-le p [] = omega arith
-count-le p (x ∷ xs) = let a = sum_by-cons (λ y. cond (p y) 1 0) x xs in let b = count-le p xs in by-test (p x) a b
-  where
-    by-test : (t : Bool) → count_by p (x ∷ xs) ≡ cond t 1 0 + count_by p xs → count_by p xs ≤ length xs → count_by p (x ∷ xs) ≤ suc (length xs)
-    by-test true a b = omega (arith, a, b)
-    by-test false a b = omega (arith, a, b)
 
 module _ (feeds : List (List Record)) (e : ℕ) (was now : ℕ → ℕ) (i : ℕ) (lo : was i ≤ now i) (hi : now i ≤ length (feed_at feeds i)) where
   pub records-more : length (of_epoch feeds e was now (i + 1)) ≡ length (of_epoch feeds e was now i) + (now i - was i)
@@ -47,7 +37,7 @@ module _ (feeds : List (List Record)) (e : ℕ) (was now : ℕ → ℕ) (i : ℕ
       rw next (count-append (λ (x : Entry). is_bad x.content) (of_epoch feeds e was now i) (entries e i (was i) rs) ∙ ap (λ (n : ℕ). count_by (λ (x : Entry). is_bad x.content) (of_epoch feeds e was now i) + n) (bad-entries e i (was i) rs))
 
   pub bad-few : count_by is_bad (between (feed_at feeds i) (was i) (now i)) ≤ now i - was i
-  bad-few = let a = count-le is_bad (between (feed_at feeds i) (was i) (now i)) in let b = length-between (feed_at feeds i) (was i) (now i) lo hi in omega (arith, a, b)
+  bad-few = let a = count_by-le-length is_bad (between (feed_at feeds i) (was i) (now i)) in let b = length-between (feed_at feeds i) (was i) (now i) lo hi in omega (arith, a, b)
 
 -- the feeds up to one more node have together at least the records of that feed more
 pub feeds-more : (feeds : List (List Record)) (i : ℕ) → i < length feeds → sum_by (λ (f : List Record). length f) (take (i + 1) feeds) ≡ sum_by (λ (f : List Record). length f) (take i feeds) + length (feed_at feeds i)
@@ -94,7 +84,7 @@ bad-next feeds i bad more feed lt at some c =
     let here = get_or feeds i feed in
     let whole : between feed 0 (length feed) ≡ feed = take_all (length feed - 0) feed (omega arith) in
     let is : more ≡ count_by is_bad here = some ∙ ap (λ (f : List Record). count_by is_bad f) (whole ∙ at) in
-    let low = count-le is_bad here in
+    let low = count_by-le-length is_bad here in
     let a = sum_by-append bads (take i feeds) (here ∷ []) in
     let b = sum_by-cons bads here [] in
     let x = sum_by-append size (take i feeds) (here ∷ []) in

@@ -30,7 +30,7 @@ use Rattle.kin_replay.specs.Demos.{demo_setting, demo_events, demo_history, demo
 use Rattle.kin_replay.specs.Drained.{DrainsWorld, DrainsInPart}
 use Rattle.kin_replay.specs.Mined.{HasJustMined}
 use Rattle.kin_replay.specs.Plays.{StandsNear}
-use Rattle.kin_replay.proofs.Played.{after-append}
+use Rattle.kin_world.proofs.Running.{after-append}
 
 -- an event in range of a schedule is one of the setting
 pub in-event : (set : Setting) (e : Event) → IsInRange (nodes set) set.parts e → IsEvent set e

@@ -17,7 +17,8 @@ use Rattle.kin_world.specs.Stands.{Stands, HasHistory}
 use Rattle.kin_world.proofs.Cutting.{cuts_is}
 use Rattle.kin_replay.specs.Left.{commits_left, drain_left}
 use Rattle.kin_replay.specs.Plays.{Scene, IsLater, drain_of, HasPlayed, HasPlayedFront, Plays, PlaysFront, PlaysDrain, PlaysDrainFront}
-use Rattle.kin_replay.proofs.Played.{after-append, played-more, front-longer, front-after, later-first, later-second}
+use Rattle.kin_world.proofs.Running.{after-append}
+use Rattle.kin_replay.proofs.Played.{played-more, front-longer, front-after, later-first, later-second}
 
 pub drained-append : (xs ys : List Event) → drained (xs ++ ys) ≡ drained xs ++ drained ys
 drained-append [] ys = refl

@@ -1,5 +1,5 @@
 -- Events that are played one after the other.
-use Rattle.std.proofs.Common.{◌≡◌, ℕ, ◌+◌, inl, Bool, List, [], ◌∷◌, ◌++◌, length, take, drop, refl, sym, ap, subst, ◌∙◌, arith}
+use Rattle.std.proofs.Common.{◌≡◌, ℕ, ◌+◌, inl, Bool, List, [], ◌++◌, length, take, drop, sym, ap, subst, ◌∙◌, arith}
 use Rattle.std.proofs.lemmas.List.{append-nil, length-append, take_all, take-append-le}
 use Rattle.std.proofs.Math.Seq.{take-append_seam, take-add, drop-append_seam}
 use Rattle.kin_ids.specs.declared.options.OptionWords.{OptionWords}
@@ -10,11 +10,8 @@ use Rattle.kin_history.specs.Setting.{Setting, after}
 use Rattle.kin_report.specs.Report.{Ran, events_of, block_after}
 use Rattle.kin_report.proofs.Quiet.{printed-append, events_of-append}
 use Rattle.kin_world.specs.Stands.{Stands}
+use Rattle.kin_world.proofs.Running.{after-append}
 use Rattle.kin_replay.specs.Plays.{Scene, IsLater, StandsNear, shown, HasPlayed, HasPlayedFront, Plays, PlaysFront}
-
-pub after-append : (h xs ys : List Event) → after h (xs ++ ys) ≡ after (after h xs) ys
-after-append h [] ys = refl
-after-append h (x ∷ xs) ys = after-append (x ∷ h) xs ys
 
 -- the history after two runs
 pub after-runs : (h : List Event) (xs ys : List Ran) → after h (events_of (xs ++ ys)) ≡ after (after h (events_of xs)) (events_of ys)

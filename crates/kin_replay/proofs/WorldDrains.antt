@@ -13,7 +13,7 @@ use Rattle.kin_replay.specs.Drained.{DrainsWorld, DrainsInPart}
 use Rattle.kin_replay.specs.Left.{drain_left}
 use Rattle.kin_replay.specs.Plays.{StandsNear}
 use Rattle.kin_replay.proofs.Drains.{left-is}
-use Rattle.kin_replay.proofs.Played.{after-append}
+use Rattle.kin_world.proofs.Running.{after-append}
 use Rattle.kin_replay.proofs.Playing.{near-kept}
 
 -- some first events of the drain were taken, and the rest of it is the drain of the history so far

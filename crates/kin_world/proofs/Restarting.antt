@@ -19,6 +19,7 @@ use Rattle.kin_history.specs.Setting.{Setting, nodes, feed_len}
 use Rattle.kin_history.specs.Lines.{comes_back, up, inc, line, next, sent, delivered, reported, bases, base, seen, agreed}
 use Rattle.kin_history.specs.Vectors.{vector, committed}
 use Rattle.kin_history.specs.Outcomes.{outcome_of}
+use Rattle.kin_history.proofs.Answered.{last-inc}
 use Rattle.kin_history.proofs.Made.{Stays, Back, restarts}
 use Rattle.kin_history.proofs.Sound.{IsSound, old_base, new_base}
 use Rattle.kin_history.proofs.Seen.{row-within, seen-within}
@@ -40,14 +41,6 @@ module _ (set : Setting) (h : List Event) (g : (i : ℕ) → IsSound set h i) (j
 
   upto-kept : (i b : ℕ) → b ≤ agreed set h i → upto b (line set (event.Restart (record { 0 = j }) ∷ h) i) ≡ upto b (line set h i)
   upto-kept i b le = ⊎_elim (λ (q : Stays set h j i). ap (upto b) q.line_is) (λ (x : Back set h j i). ap (upto b) x.line_is ∙ upto-upto b (agreed set h i) (line set h i) le) (restarts set h j i)
-
--- no node comes back more than 65535 times
-inc-most : (set : Setting) (h : List Event) (i : ℕ) → inc set h i ≤ 65535
-inc-most set [] i = omega arith
-inc-most set (event.Restart j ∷ h) i =
-    cond_both (eqb j.0 i && comes_back (up set h i) (inc set h i)) (inc set h i + 1) (inc set h i) (λ (n : ℕ). n ≤ 65535)
-    (λ t. let less : inc set h i < 65535 = ltb-true (inc set h i) 65535 (and_parts _ _ (and_parts _ _ t).1).1 in omega arith) (λ _. inc-most set h i)
-inc-most set (_ ∷ h) i = inc-most set h i
 
 module _ (set : Setting) (w : WorldView) (h : List Event) (s : Stands set w h) (j : IngestId) (lt : j.0 < nodes set) where
   up_is : (node_at w j.0).up ≡ up set h j.0
@@ -178,7 +171,7 @@ restart-keeps old j (outcome.Restarted c a) new lt back = λ set h s.
     let in_set = node_in set old h s j.0 lt in
     let same_inc : (node_at old j.0).inc.0 ≡ inc set h j.0 = node_inc set old h s j in_set in
     let down : up set h j.0 ≡ false = sym (up_is set old h s j in_set) ∙ back.down in
-    let most = inc-most set h j.0 in
+    let most = last-inc set h j.0 in
     let room = back.left in
     let left : inc set h j.0 < 65535 = omega arith in
     let c_is : c.0 ≡ inc set h j.0 + 1 = back.inc ∙ ap (λ (k : ℕ). k + 1) same_inc in

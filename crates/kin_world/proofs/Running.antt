@@ -45,7 +45,7 @@ pub has-after : (old : WorldView) (e : Event) (r : Result Outcome Memory) (new :
 has-after old e (Ok o) new (set, h, s) keeps err = (set, e ∷ h, (keeps set h s).1)
 has-after old e (Err x) new has keeps err = kept-history old e new has err
 
-after-append : (h xs ys : List Event) → after h (xs ++ ys) ≡ after (after h xs) ys
+pub after-append : (h xs ys : List Event) → after h (xs ++ ys) ≡ after (after h xs) ys
 after-append h [] ys = refl
 after-append h (x ∷ xs) ys = after-append (x ∷ h) xs ys
 
