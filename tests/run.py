@@ -120,6 +120,9 @@ def where_nothing_can_be_written(program):
     yield Check('a standard output that nobody reads', CANNOT_WRITE, unread())
     yield Check('a closed standard output', CANNOT_WRITE, closed())
     yield Check('a full standard output and no feed', CANNOT_READ._replace(stdout=None), full({'s': ONE}))
+    with open('/dev/full', 'wb') as device:
+        told = answer(program, ['demo', '--seed', '1', '--records', '10'], stdout=device)
+    yield Check('a full standard output of demo', CANNOT_WRITE, told)
 
 
 def piped(program):
