@@ -18,10 +18,7 @@ EXAMPLES = {
     'debian': '--parts 4 --landmarks 1 --script by-year --feeds feed0.csv,feed1.csv,feed2.csv',
 }
 PICTURES = {
-    'exposure.svg': (
-        'expo unstable',
-        'Exposure of uploaders to "unstable": how many whom they certify uploaded before them (mean)',
-    ),
+    'exposure.svg': ('expo unstable', 'Exposure to "unstable"'),
     'reach.svg': ('hops 1', 'How many people a walk over certifications reaches from maintainer 1'),
 }
 
