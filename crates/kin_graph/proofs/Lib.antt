@@ -9,3 +9,6 @@ pub mod Same
 pub mod Fitting
 pub mod Members
 pub mod Wholes
+pub mod Finds
+pub mod Telling
+pub mod Exact

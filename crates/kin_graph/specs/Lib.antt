@@ -4,3 +4,5 @@ pub mod Rows
 pub mod State
 pub mod Changes
 pub mod Views
+pub mod Deltas
+pub mod Told

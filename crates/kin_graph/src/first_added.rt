@@ -1,6 +1,8 @@
 //! Lists in the order of first adding, in which a key is found without a long scan.
 
 ghost use Rattle.std.specs.Prelude.{◌≡◌, ◌<◌, [], ◌++◌, ◌∷◌, IfOk, OnOk, OnErr, None, length, slice_set, slice_index_or};
+ghost use Rattle.std.specs.List.{find};
+ghost use Rattle.std.specs.BTreeMap.{is_at};
 ghost use Rattle.std.specs.declared.cmp.Ordering.TheVariants.{Equal};
 ghost use Rattle.kin_graph.specs.Lists.{IsFirstAdded, IsIndex, HasKeysOnce, change_of_put, front, place_of, taken_back, with_new};
 
@@ -58,6 +60,24 @@ impl<K: Ord + Copy + Drop, T: Keyed<K> + Copy + Drop> FirstAdded<K, T> {
         ensures { result.now ≡ self.now }
     {
         self.items.as_slice()
+    }
+
+    /// The items, no two of which have the same key.
+    pub(crate) fn distinct(&self) -> &[T]
+        ensures items { result.now ≡ self.now }
+        ensures once { HasKeysOnce K.cmp T.key self.now }
+    {
+        self.items.as_slice()
+    }
+
+    /// The item of this key.
+    pub(crate) fn get(&self, key: K) -> Option<T>
+        ensures { result ≡ find (λ x. is_at (K.cmp key) (T.key x)) self.now }
+    {
+        let Some(at) = self.place(key) else {
+            return None;
+        };
+        Some(self.items[at])
     }
 
     /// Where the item of this key stands.

@@ -2,6 +2,8 @@
 #![tactic(auto)]
 
 mod changes;
+pub mod deltas;
+pub mod differences;
 mod first_added;
 mod halves;
 pub mod part_graphs;
@@ -10,6 +12,8 @@ mod rows;
 pub mod ticks;
 pub mod views;
 
+pub use deltas::{Delta, Pair, SaidRow, TagUser, UseRow};
+pub use differences::delta;
 use kin_ids::ListOf;
 pub use kin_ids::{Half, Use};
 pub use part_graphs::PartGraph;

@@ -29,16 +29,19 @@ impl Keyed<Tag> for Use {
 /// Users, each once.
 pub(crate) type Users = FirstAdded<User, User>;
 
+/// First uses, each tag once.
+pub(crate) type UsesByTag = FirstAdded<Tag, Use>;
+
 /// The follow halves out of a user and into it, whom it mentions and who mentions it, its first uses of tags, and how many
 /// items mention it.
 #[derive(Drop)]
 pub(crate) struct Row {
-    out: Halves,
-    inn: Halves,
-    mentions: Users,
-    mentioners: Users,
-    uses: FirstAdded<Tag, Use>,
-    said: u64,
+    pub(crate) out: Halves,
+    pub(crate) inn: Halves,
+    pub(crate) mentions: Users,
+    pub(crate) mentioners: Users,
+    pub(crate) uses: UsesByTag,
+    pub(crate) said: u64,
 }
 
 impl Model for Row {
