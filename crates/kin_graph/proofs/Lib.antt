@@ -12,3 +12,4 @@ pub mod Wholes
 pub mod Finds
 pub mod Telling
 pub mod Exact
+pub mod DeltaRows

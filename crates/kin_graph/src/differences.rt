@@ -1,13 +1,13 @@
 //! The difference between two stores of one partition: what is in the later one is looked up in the earlier one.
 
-ghost use Rattle.std.specs.Prelude.{◌≡◌, [], ◌++◌, IfOk, OnOk, All, length, not};
-ghost use Rattle.std.specs.BTreeMap.{is_at};
-ghost use Rattle.kin_ids.specs.Users.{has_user, same_tag, same_user, tag_cmp, user_cmp};
+ghost use Rattle.std.specs.Prelude.{◌≡◌, [], ◌++◌, IfOk, OnOk, All, Some};
+ghost use Rattle.kin_ids.specs.Users.{tag_cmp, user_cmp};
 ghost use Rattle.kin_graph.specs.Lists.{HasKeysOnce};
 ghost use Rattle.kin_graph.specs.Rows.{no_row};
-ghost use Rattle.kin_graph.specs.State.{row_of, users_of, view_of};
-ghost use Rattle.kin_graph.specs.Deltas.{half_to, is_present, use_of, IsDelta, KeepsHalves};
-ghost use Rattle.kin_graph.specs.Told.{half_pairs, halves_told, member_pairs, noted, row_in, row_told, rows_told, said_rows, tag_rows, tag_told, tags_told, use_rows, users_in, OnceInRow};
+ghost use Rattle.kin_graph.specs.State.{view_of};
+ghost use Rattle.kin_graph.specs.Deltas.{IsDelta, KeepsHalves};
+ghost use Rattle.kin_graph.specs.Told.{halves_told, member_pairs, noted, row_told, tag_rows, tag_told, use_rows, OnceInRow};
+ghost use Rattle.kin_graph.specs.Told.{row_in, rows_told, tags_told, users_in};
 
 use crate::deltas::{Delta, HalfChanges, Pair, Pairs, SaidRow, TagUser, UseRow};
 use crate::first_added::FirstAdded;
