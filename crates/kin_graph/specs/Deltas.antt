@@ -54,13 +54,15 @@ abbrev pub is_present : Option Half → Bool
 is_present None = false
 is_present (Some h) = h.present
 
--- a half that was so and is so: it was added for the first time; it is present and wasn't; it was present and isn't
+-- a half that was so and is so: was it added for the first time?
 abbrev pub is_new : Option Half → Option Half → Bool
 is_new was is = is_some is && not (is_some was)
 
+-- is it present, and wasn't it?
 abbrev pub is_now : Option Half → Option Half → Bool
 is_now was is = is_present is && not (is_present was)
 
+-- was it present, and isn't it?
 abbrev pub is_gone : Option Half → Option Half → Bool
 is_gone was is = is_present was && not (is_present is)
 
@@ -69,6 +71,7 @@ abbrev pub one_if : {X : Type 0} → Bool → X → List X
 one_if true x = x ∷ []
 one_if false x = []
 
+-- whether two pairs are of the same users
 abbrev pub same_pair : Pair → Pair → Bool
 same_pair p q = same_user p.user q.user && same_user p.other q.other
 

@@ -23,15 +23,19 @@ half_pairs f u was is = map (λ h. record { user = u; other = h.other }) (filter
 abbrev pub member_pairs : User → List User → List User → List Pair
 member_pairs u was is = map (λ w. record { user = u; other = w }) (filter (λ w. not (has_user was w)) is)
 
+-- a user's rows of those tags that are new
 abbrev pub use_rows : User → List Use → List Use → List UseRow
 use_rows u was is = map (λ x. record { user = u; entry = x }) (filter (λ x. not (list_any (λ y. same_tag x.tag y.tag) was)) is)
 
+-- by how much a user's number grew, where it did
 abbrev pub said_rows : User → ℕ → ℕ → List SaidRow
 said_rows u was is = one_if (nat_lt was is) (record { user = u; number = is - was })
 
+-- a tag's rows of those users who are new
 abbrev pub tag_rows : List ℕ → List User → List User → List TagUser
 tag_rows t was is = map (λ u. record { tag = t; user = u }) (filter (λ u. not (has_user was u)) is)
 
+-- what one user's halves on a side add
 abbrev pub halves_told : User → List Half → List Half → HalfChanges → HalfChanges
 halves_told u was is c = record {
   added = c.added ++ half_pairs is_new u was is;
@@ -39,6 +43,7 @@ halves_told u was is c = record {
   gone = c.gone ++ half_pairs is_gone u was is;
 }
 
+-- what one user's row adds
 abbrev pub row_told : User → UserRow → UserRow → DeltaLists → DeltaLists
 row_told u was is d = record {
   new_out = d.new_out ++ half_pairs is_new u was.out is.out;
@@ -54,6 +59,7 @@ row_told u was is d = record {
   tag_users = d.tag_users;
 }
 
+-- what one tag's users add
 abbrev pub tag_told : List ℕ → List User → List User → DeltaLists → DeltaLists
 tag_told t was is d = record d { tag_users = d.tag_users ++ tag_rows t was is }
 
@@ -85,6 +91,7 @@ abbrev pub rows_told : (User → UserRow) → List (User × UserRow) → DeltaLi
 rows_told was [] d = d
 rows_told was (e ∷ es) d = rows_told was es (row_told e.0 (was e.0) e.1 d)
 
+-- the users of all tags, one after the other
 abbrev pub tags_told : (List ℕ → List User) → List (List ℕ × List User) → DeltaLists → DeltaLists
 tags_told was [] d = d
 tags_told was (e ∷ es) d = tags_told was es (tag_told e.0 (was e.0) e.1 d)
