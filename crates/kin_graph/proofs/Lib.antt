@@ -11,5 +11,6 @@ pub mod Members
 pub mod Wholes
 pub mod Finds
 pub mod Telling
+pub mod Picking
 pub mod Exact
 pub mod DeltaRows

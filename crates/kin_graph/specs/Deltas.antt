@@ -1,5 +1,6 @@
 -- What a delta between two versions of a partition's part tells.
-use Rattle.std.specs.Prelude.{◌≡◌, ℕ, nat_lt, ◌-◌, ◌&&◌, not, Bool, true, false, List, [], ◌∷◌, filter, Option, Some, None, is_some}
+use Rattle.std.specs.Prelude.{◌≡◌, ℕ, nat_lt, ◌-◌, ◌&&◌, not, Bool, true, false, List, [], ◌∷◌}
+use Rattle.std.specs.Prelude.{filter, Option, Some, None, is_some}
 use Rattle.std.specs.List.{find}
 use Rattle.kin_ids.specs.declared.ids.User.{User}
 use Rattle.kin_ids.specs.declared.ops.Half.{Half}
@@ -93,8 +94,8 @@ abbrev pub is_met : (User → List User) → (User → List User) → Pair → B
 is_met was is p = has_user (is p.user) p.other && not (has_user (was p.user) p.other)
 
 -- Exactly what differs between a part as it was and as it is, each once: the halves that were added for the first time,
--- those that came to be present and those that ceased to be; the new mentions; by how much each number of `said` grew; the
--- new first uses; and the new users of tags.
+-- those that came to be present and those that ceased to be; the new mentions; by how much each number of `said` grew;
+-- the new first uses; and the new users of tags.
 pub record IsDelta (was is : PartView) (d : DeltaLists) : Type 0 where
   pub new_out : HasJust (λ p. is_new (pair_in was.out p) (pair_in is.out p)) d.new_out
   pub new_in : HasJust (λ p. is_new (pair_in was.inn p) (pair_in is.inn p)) d.new_in

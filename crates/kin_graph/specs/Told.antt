@@ -17,7 +17,8 @@ use Rattle.kin_graph.specs.declared.deltas.HalfChanges.{HalfChanges}
 
 -- a user's pairs with the ends of those halves that pass
 abbrev pub half_pairs : (Option Half → Option Half → Bool) → User → List Half → List Half → List Pair
-half_pairs f u was is = map (λ h. record { user = u; other = h.other }) (filter (λ h. f (half_to was h.other) (Some h)) is)
+half_pairs f u was is =
+    map (λ h. record { user = u; other = h.other }) (filter (λ h. f (half_to was h.other) (Some h)) is)
 
 -- a user's pairs with those who are new
 abbrev pub member_pairs : User → List User → List User → List Pair
@@ -25,7 +26,8 @@ member_pairs u was is = map (λ w. record { user = u; other = w }) (filter (λ w
 
 -- a user's rows of those tags that are new
 abbrev pub use_rows : User → List Use → List Use → List UseRow
-use_rows u was is = map (λ x. record { user = u; entry = x }) (filter (λ x. not (list_any (λ y. same_tag x.tag y.tag) was)) is)
+use_rows u was is =
+    map (λ x. record { user = u; entry = x }) (filter (λ x. not (list_any (λ y. same_tag x.tag y.tag) was)) is)
 
 -- by how much a user's number grew, where it did
 abbrev pub said_rows : User → ℕ → ℕ → List SaidRow
