@@ -1,10 +1,10 @@
 -- Worked values of a delta.
-use Rattle.std.proofs.Common.{◌≡◌, ℕ, Bool, true, false, List, [], ◌∷◌, Option, Some, None, refl}
+use Rattle.std.proofs.Common.{◌≡◌, ℕ, Bool, true, false, List, [], ◌∷◌, Some, None, refl}
 use Rattle.kin_ids.specs.declared.ids.User.{User}
 use Rattle.kin_ids.specs.declared.ops.Half.{Half}
 use Rattle.kin_ids.specs.declared.stamps.Place.{Place}
 use Rattle.kin_graph.specs.Rows.{UserRow, no_row}
-use Rattle.kin_graph.specs.Deltas.{DeltaLists, no_change, is_new, is_now, is_gone}
+use Rattle.kin_graph.specs.Deltas.{no_change, is_new, is_now, is_gone}
 use Rattle.kin_graph.specs.Told.{row_in, rows_told}
 
 -- record 4 of node 0, in epoch 1

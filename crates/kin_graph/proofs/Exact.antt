@@ -1,5 +1,5 @@
 -- What was told of all users and tags is the difference.
-use Rattle.std.proofs.Common.{◌≡◌, ℕ, zero, suc, nat_lt, ◌+◌, ◌-◌, ◌<◌, ◌≤◌, ◌&&◌, ◌||◌, Bool, true, false, not, cond, List, [], ◌∷◌, ◌++◌, map, filter, Option, Some, None, is_some, unwrap_or, length, take, get_or, refl, sym, ap, ◌∙◌, subst, arith, All, IfSome, append-nil, append_assoc}
+use Rattle.std.proofs.Common.{◌≡◌, ℕ, nat_lt, ◌-◌, ◌&&◌, Bool, true, false, not, List, [], ◌∷◌, ◌++◌, map, filter, Option, Some, None, is_some, unwrap_or, refl, sym, ap, ◌∙◌, subst, arith, All, IfSome, append-nil, append_assoc}
 use Rattle.std.specs.List.{find, list_any, cons_option}
 use Rattle.std.specs.Map.{lookup, keys_of}
 use Rattle.std.specs.List.Sorted.{IsStrictlySortedBy}
@@ -8,7 +8,6 @@ use Rattle.std.specs.Cmp.{IsTotalOrder}
 use Rattle.std.specs.declared.cmp.Ordering.{Ordering}
 use Rattle.std.specs.declared.cmp.Ordering.TheVariants.{Equal}
 use Rattle.std.proofs.lemmas.List.Elements.{filter-append}
-use Rattle.std.proofs.lemmas.List.{take_more, take_all, get_or_default}
 use Rattle.std.specs.Cmp.{Equal-is}
 use Rattle.std.proofs.lemmas.Cmp.{eq_by_cmp_equiv}
 use Rattle.std.proofs.lemmas.Map.{lookup-none}
@@ -23,14 +22,14 @@ use Rattle.kin_graph.specs.declared.deltas.SaidRow.{SaidRow}
 use Rattle.kin_graph.specs.declared.deltas.UseRow.{UseRow}
 use Rattle.kin_graph.specs.declared.deltas.TagUser.{TagUser}
 use Rattle.kin_graph.specs.Rows.{UserRow, no_row}
-use Rattle.kin_graph.specs.Lists.{place_of, HasKeysOnce}
+use Rattle.kin_graph.specs.Lists.{HasKeysOnce}
 use Rattle.kin_graph.specs.Deltas.{DeltaLists, no_change, half_to, use_of, is_new, is_now, is_gone, one_if, same_pair, HasJust, new_use, is_met, IsDelta, KeepsHalves}
 use Rattle.kin_graph.specs.Told.{half_pairs, member_pairs, use_rows, said_rows, tag_rows, row_told, tag_told, rows_told, tags_told, row_in, users_in, OnceInRow}
 use Rattle.std.proofs.lemmas.Bool.{false≢true, le-ltb}
 use Rattle.kin_graph.specs.State.{PartState, IsStore, view_of}
 use Rattle.kin_graph.proofs.Stores.{user_total, tag_total, user_exact, tag_exact}
-use Rattle.kin_graph.proofs.Places.{once-none, list_any-position, place-same, once-before}
-use Rattle.kin_graph.proofs.Picking.{pick, no-pick, picked, find-passes, any-find, one-cond}
+use Rattle.kin_graph.proofs.Places.{once-none}
+use Rattle.kin_graph.proofs.Picking.{no-pick, picked, find-passes, any-find, one-cond}
 
 -- what is made of the entries, one after the other
 abbrev told_all : {K V Y : Type 0} → (K → V → List Y) → List (K × V) → List Y

@@ -1,35 +1,14 @@
 -- Of lists with each key once: what a filter keeps of one key.
-use Rattle.std.proofs.Common.{◌≡◌, ℕ, zero, suc, nat_lt, ◌+◌, ◌-◌, ◌<◌, ◌≤◌, ◌&&◌, ◌||◌, Bool, true, false, not, cond, List, [], ◌∷◌, ◌++◌, map, filter, Option, Some, None, is_some, unwrap_or, length, take, get_or, refl, sym, ap, ◌∙◌, subst, arith, All, IfSome, append-nil, append_assoc}
+use Rattle.std.proofs.Common.{◌≡◌, ℕ, zero, suc, ◌+◌, ◌<◌, ◌≤◌, ◌||◌, Bool, true, false, cond, List, [], ◌∷◌, ◌++◌, map, filter, Some, None, is_some, length, take, get_or, refl, sym, ap, ◌∙◌, subst, arith, append-nil}
 use Rattle.std.specs.List.{find, list_any, cons_option}
-use Rattle.std.specs.Map.{lookup, keys_of}
-use Rattle.std.specs.List.Sorted.{IsStrictlySortedBy}
 use Rattle.std.specs.BTreeMap.{is_at}
 use Rattle.std.specs.Cmp.{IsTotalOrder}
 use Rattle.std.specs.declared.cmp.Ordering.{Ordering}
-use Rattle.std.specs.declared.cmp.Ordering.TheVariants.{Equal}
 use Rattle.std.proofs.lemmas.List.Elements.{filter-append}
 use Rattle.std.proofs.lemmas.List.{take_more, take_all, get_or_default}
-use Rattle.std.specs.Cmp.{Equal-is}
-use Rattle.std.proofs.lemmas.Cmp.{eq_by_cmp_equiv}
-use Rattle.std.proofs.lemmas.Map.{lookup-none}
-use Rattle.std.proofs.lemmas.Map.Keys.{IsDistinct-from_sorted, sorted_tail}
-use Rattle.std.proofs.lemmas.Map.Entries.{lookup_head, lookup_tail, none_past_head, All-lookup}
-use Rattle.kin_ids.specs.declared.ids.User.{User}
-use Rattle.kin_ids.specs.declared.ops.Half.{Half}
-use Rattle.kin_ids.specs.declared.ops.Use.{Use}
-use Rattle.kin_ids.specs.Users.{user_cmp, tag_cmp, same_user, same_tag, has_user}
-use Rattle.kin_graph.specs.declared.deltas.Pair.{Pair}
-use Rattle.kin_graph.specs.declared.deltas.SaidRow.{SaidRow}
-use Rattle.kin_graph.specs.declared.deltas.UseRow.{UseRow}
-use Rattle.kin_graph.specs.declared.deltas.TagUser.{TagUser}
-use Rattle.kin_graph.specs.Rows.{UserRow, no_row}
 use Rattle.kin_graph.specs.Lists.{place_of, HasKeysOnce}
-use Rattle.kin_graph.specs.Deltas.{DeltaLists, no_change, half_to, use_of, is_new, is_now, is_gone, one_if, same_pair, HasJust, new_use, is_met, IsDelta, KeepsHalves}
-use Rattle.kin_graph.specs.Told.{half_pairs, member_pairs, use_rows, said_rows, tag_rows, row_told, tag_told, rows_told, tags_told, row_in, users_in, OnceInRow}
-use Rattle.std.proofs.lemmas.Bool.{false≢true, le-ltb}
-use Rattle.kin_graph.specs.State.{PartState, IsStore, view_of}
-use Rattle.kin_graph.proofs.Stores.{user_total, tag_total, user_exact, tag_exact}
-use Rattle.kin_graph.proofs.Places.{once-none, list_any-position, place-same, once-before}
+use Rattle.kin_graph.specs.Deltas.{one_if}
+use Rattle.kin_graph.proofs.Places.{list_any-position, place-same, once-before}
 
 -- no item passes
 filter-none : {X : Type 0} (q : X → Bool) (xs : List X) → list_any q xs ≡ false → filter q xs ≡ []
