@@ -101,6 +101,36 @@ class Graph:
             yield f'tag {tag} {sum(b == tag for _, b in self.uses)}'
 
 
+def changes(was, now, parts):
+    """What a graph changed of another one that it goes on from: a line for each partition, whose lists ascend.
+
+    A half lives with the user at its own end, and a tag with its partition.
+    """
+    before, present = set(was.present()), set(now.present())
+    edges = {'new': set(now.follows) - set(was.follows), 'now': present - before, 'gone': before - present,
+             'mention': now.mentions - was.mentions}
+    uses = sorted(set(now.uses) - set(was.uses))
+    grown = sorted((u, n - was.said.get(u, 0)) for u, n in now.said.items() if n > was.said.get(u, 0))
+    for p in range(parts):
+        words = ['part', str(p)]
+        for name, pairs in edges.items():
+            words += [f'{name}_out', *(f'{a}-{b}' for a, b in sorted(pairs) if a % parts == p)]
+            words += [f'{name}_in', *(f'{b}-{a}' for b, a in sorted((b, a) for a, b in pairs) if b % parts == p)]
+        words += ['said', *(f'{u}:{n}' for u, n in grown if u % parts == p)]
+        words += ['uses', *(f'{u}-{tag}@{written(now.uses[u, tag])}' for u, tag in uses if u % parts == p)]
+        by_tag = sorted((tag, u) for u, tag in uses)
+        words += ['tag_users', *(f'{tag}-{u}' for tag, u in by_tag if tag_hash(tag) % parts == p)]
+        yield ' '.join(words)
+
+
+def tag_hash(tag):
+    """The number that says where a tag lives."""
+    h = 0
+    for byte in tag.encode():
+        h = (h * 31 + byte) % 2 ** 32
+    return h
+
+
 def written(place):
     """A place as text."""
     return '.'.join(str(part) for part in place)

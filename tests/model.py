@@ -7,9 +7,9 @@
 
 A case begins with `world P FEEDS` or `world P FEEDS LANDMARKS`: P partitions; feeds parted by `;`, whose
 records are parted by `|` (the feed `|` has none); landmarks parted by `,`. Then come lines of the schedule
-language, each answered by the text of its outcome. Three more lines are no events: `vectors` prints where each
-cut epoch ends; `store K` the snapshot of epoch K, or `none` where it isn't kept; and `result` the values of the
-epoch begun last, or `not-begun` where there is none. Empty lines and lines that begin with `#` answer nothing;
+language, each answered by the text of its outcome. Four more lines are no events: `vectors` prints where each
+cut epoch ends; `store K` the snapshot of epoch K, and `deltas K` what epoch K changed in each partition, or `none`
+where it isn't kept; and `result` the values of the epoch begun last, or `not-begun` where there is none. Empty lines and lines that begin with `#` answer nothing;
 what is none of these answers `bad line`.
 """
 import json
@@ -18,7 +18,7 @@ import sys
 from itertools import islice
 
 from commands import Answer, replay
-from graphs import number, records, user
+from graphs import changes, number, records, user
 from histories import History
 from jobs import seeded, words_of
 from programs import Check, conclude
@@ -52,11 +52,20 @@ def vectors(history):
         yield ' '.join(['epoch', str(k), *history.entries(n, k)])
 
 
-def store(history, k):
-    """The snapshot of an epoch, which is kept where every partition has committed it and no later one is mined."""
+def is_kept(history, k):
+    """Whether every partition has committed an epoch, and no later one is mined."""
     n = len(history.events)
-    kept = history.mined(n) <= k <= min(history.committed(n, p) for p in history.parts)
-    return [f'store {k}', *history.snapshot(k).text()] if kept else ['none']
+    return history.mined(n) <= k <= min(history.committed(n, p) for p in history.parts)
+
+
+def store(history, k):
+    """The snapshot of an epoch."""
+    return [f'store {k}', *history.snapshot(k).text()]
+
+
+def deltas(history, k):
+    """What an epoch changed, by partitions; epoch 0 nothing."""
+    return [f'deltas {k}', *changes(history.snapshot(max(k, 1) - 1), history.snapshot(k), len(history.parts))]
 
 
 def result(history):
@@ -73,8 +82,11 @@ def look(history, line):
         return vectors(history)
     if line == 'result':
         return result(history)
-    k = number(words[1], range(MOST_RECORDS + 1)) if len(words) == 2 and words[0] == 'store' else None
-    return None if k is None else store(history, k)
+    told = {'store': store, 'deltas': deltas}.get(words[0])
+    k = number(words[1], range(MOST_RECORDS + 1)) if len(words) == 2 and told else None
+    if k is None:
+        return None
+    return told(history, k) if is_kept(history, k) else ['none']
 
 
 def answers(lines):

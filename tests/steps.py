@@ -9,8 +9,8 @@
 PROGRAM is else crates/kin_steps/out/kin_steps, as `rt run` in crates/kin_steps builds it. The stored cases are
 the files stdin and stdout there, which the gate runs: the worked schedules, committed by all partitions and by one, and
 mined; the worked runs, with all values of each epoch; a table of fair cuts; a schedule of two partitions with a
-restart put in at every place; and random schedules. Each case ends with its vectors and the store of each cut
-epoch, and some with the values of each epoch that is mined.
+restart put in at every place; and random schedules. Each case ends with its vectors and, of each cut epoch, the
+store and what it changed, and some with the values of each epoch that is mined.
 """
 import argparse
 import os
@@ -36,7 +36,7 @@ ALL_AGREED = ['stamp 0 2', 'stamp 0 2', 'stamp 1 2', 'stamp 1 2', 'deliver 0 0 0
 
 def looks(epochs):
     """Lines that ask for all that stands after so many cuts."""
-    return ['vectors', *(f'store {k}' for k in range(1, epochs + 1))]
+    return ['vectors', *(f'{what} {k}' for k in range(1, epochs + 1) for what in ('store', 'deltas'))]
 
 
 def mines(epochs):
@@ -109,7 +109,8 @@ class CaseDraws(Draws):
 
     def look(self):
         """A store, or the values of the epoch begun last."""
-        return [self.draw.choice(['result', f'store {self.draw.randrange(5)}'])]
+        k = self.draw.randrange(5)
+        return [self.draw.choice(['result', f'store {k}', f'deltas {k}'])]
 
     def wrong(self):
         """A line that is nothing."""

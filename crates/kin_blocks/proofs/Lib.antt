@@ -1,6 +1,9 @@
 pub mod Empties
 pub mod Wholes
 pub mod Joined
-mod Beginnings
-pub mod Steps
+pub mod Applying
+pub mod Going
 pub mod Few
+pub mod Steps
+mod Beginnings
+mod Releasing

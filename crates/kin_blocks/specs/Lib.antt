@@ -1,3 +1,4 @@
 pub mod Snaps
 pub mod Wholes
+pub mod Blocks
 pub mod Versions

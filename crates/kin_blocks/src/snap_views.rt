@@ -1,7 +1,7 @@
 //! How a snapshot is read: each user and each tag at its partition.
 
 use crate::snaps::Snap;
-use kin_graph::{Half, Steps, Use, View};
+use kin_graph::{Halves, Steps, UseList, Users, View};
 use kin_ids::{Memory, Tag, User};
 use std::collections::BTreeSet;
 use std::sync::ledger::Ledger;
@@ -41,7 +41,7 @@ impl View for Snap {
         self.of_user(u).said(u)
     }
 
-    fn uses(&self, u: User) -> &[Use] {
+    fn uses(&self, u: User) -> &UseList {
         self.of_user(u).uses(u)
     }
 
@@ -49,19 +49,19 @@ impl View for Snap {
         self.of_tag(t).tag_users(t)
     }
 
-    fn out<'a, L: Ledger>(&'a self, u: User, steps: &mut Steps<L>) -> &'a [Half] {
+    fn out<'a, L: Ledger>(&'a self, u: User, steps: &mut Steps<L>) -> &'a Halves {
         self.of_user(u).out(u, steps)
     }
 
-    fn inn<'a, L: Ledger>(&'a self, u: User, steps: &mut Steps<L>) -> &'a [Half] {
+    fn inn<'a, L: Ledger>(&'a self, u: User, steps: &mut Steps<L>) -> &'a Halves {
         self.of_user(u).inn(u, steps)
     }
 
-    fn mentions<'a, L: Ledger>(&'a self, u: User, steps: &mut Steps<L>) -> &'a [User] {
+    fn mentions<'a, L: Ledger>(&'a self, u: User, steps: &mut Steps<L>) -> &'a Users {
         self.of_user(u).mentions(u, steps)
     }
 
-    fn mentioners<'a, L: Ledger>(&'a self, u: User, steps: &mut Steps<L>) -> &'a [User] {
+    fn mentioners<'a, L: Ledger>(&'a self, u: User, steps: &mut Steps<L>) -> &'a Users {
         self.of_user(u).mentioners(u, steps)
     }
 }

@@ -2,7 +2,7 @@
 
 ghost use Rattle.std.specs.Prelude.{◌≡◌, ◌<◌, IfOk, length, slice_set};
 
-use kin_graph::PartGraph;
+use kin_graph::PartSnap;
 use kin_ids::{Memory, PartId, Tag, User, part_of_tag, part_of_user};
 use std::alloc::Global;
 use std::marker::Model;
@@ -11,7 +11,7 @@ use std::marker::Model;
 #[derive(Drop)]
 pub struct Snap {
     pub(crate) alloc: Global,
-    pub(crate) stores: Vec<PartGraph>,
+    pub(crate) stores: Vec<PartSnap>,
 }
 
 impl Model for Snap {
@@ -37,13 +37,32 @@ impl Snap {
     {
         let mut stores = Vec::with_capacity(alloc, usize::from(parts))?;
         for p in 0..parts {
-            stores.push(PartGraph::new(alloc, PartId(p), parts)?)?;
+            stores.push(PartSnap::new(alloc, PartId(p), parts)?)?;
         }
         Ok(Snap { alloc, stores })
     }
 
+    /// The stores of all partitions in order, together one graph. It costs O(1).
+    pub fn join(alloc: Global, parts: Vec<PartSnap>) -> Snap
+        requires { IsSnap parts.items }
+        ensures { result ≡ parts.items }
+    {
+        Snap {
+            alloc,
+            stores: parts,
+        }
+    }
+
+    /// How many partitions there are.
+    pub(crate) fn parts(&self) -> u16
+        ensures parts { result ≡ length self.now }
+        ensures snap { IsSnap self.now }
+    {
+        self.stores.len() as u16
+    }
+
     /// The store of a partition.
-    pub(crate) fn store(&self, p: PartId) -> &PartGraph
+    pub(crate) fn store(&self, p: PartId) -> &PartSnap
         requires { p.0 < length self.now }
         ensures store { result.now ≡ state_at self.now p.0 }
         ensures snap { IsSnap self.now }
@@ -52,21 +71,21 @@ impl Snap {
     }
 
     /// The store of a user's partition.
-    pub(crate) fn of_user(&self, u: User) -> &PartGraph
+    pub(crate) fn of_user(&self, u: User) -> &PartSnap
         ensures { result.now ≡ state_at self.now (user_part (length self.now) u) }
     {
         self.store(part_of_user(u, self.stores.len() as u16))
     }
 
     /// The store of a tag's partition.
-    pub(crate) fn of_tag(&self, t: Tag) -> &PartGraph
+    pub(crate) fn of_tag(&self, t: Tag) -> &PartSnap
         ensures { result.now ≡ state_at self.now (tag_part (length self.now) t) }
     {
         self.store(part_of_tag(t, self.stores.len() as u16))
     }
 
     /// Puts another store in the place of a partition's. It takes no memory.
-    pub(crate) fn put(&mut self, p: PartId, store: PartGraph)
+    pub(crate) fn put(&mut self, p: PartId, store: PartSnap)
         requires there { p.0 < length self.old }
         requires home { (store.part ≡ p.0) × (store.parts ≡ length self.old) }
         ensures put { self.new ≡ slice_set self.old p.0 store }
@@ -75,13 +94,13 @@ impl Snap {
         self.stores[usize::from(p.0)] = store;
     }
 
-    /// An equal one. It costs a copy of each store.
+    /// An equal one, which shares the stores. It costs O(n) in the partitions.
     pub fn share(&self) -> Result<Snap, Memory>
         ensures { IfOk result (λ s. s ≡ self.now) }
     {
         let mut stores = Vec::with_capacity(self.alloc, self.stores.len())?;
         for store in &self.stores {
-            stores.push(store.copy()?)?;
+            stores.push(store.share()?)?;
         }
         Ok(Snap {
             alloc: self.alloc,

@@ -3,7 +3,7 @@
 ghost use Rattle.std.specs.Prelude.{◌≡◌, ◌<◌, All, IfOk};
 ghost use Rattle.kin_ids.specs.Operations.{op_part};
 
-use crate::Snap;
+use crate::{PartSnap, Snap};
 use kin_graph::{Half, PartGraph, Steps, View};
 use kin_ids::{
     Epoch, Inc, IngestId, Numbered, Op, Ops, PartId, Piece, Place, Stamp, Tag, User, part_of_tag,
@@ -19,28 +19,37 @@ const FOLLOWER: User = User(1);
 
 const FOLLOWED: User = User(2);
 
-// The store of one of two partitions with these operations of record 1 of node 0, in epoch 1.
-fn store_of(alloc: Global, part: PartId, ops: Vec<Numbered>) -> Result<PartGraph, Fail>
-    requires part { part.0 < 2 }
-    requires home { All (λ x. op_part 2 x.op ≡ part.0) ops.items }
-    ensures part { IfOk result (λ store. store.part ≡ part.0) }
-    ensures parts { IfOk result (λ store. store.parts ≡ 2) }
+// These operations, as those of record 1 of node 0.
+fn piece_of(part: PartId, ops: Vec<Numbered>) -> Piece
+    ensures part { result.part ≡ part }
+    ensures ops { result.ops ≡ ops.items }
 {
-    let mut store = PartGraph::new(alloc, part, 2)?;
     let stamp = Stamp {
         ingest: IngestId(0),
         inc: Inc(0),
         from: 0,
         to: 1,
     };
-    let piece = Piece {
+    Piece {
         stamp,
         base: 0,
         part,
         ops: Ops::of(ops),
-    };
+    }
+}
+
+// The store of one of two partitions with these operations of record 1 of node 0, in epoch 1.
+fn store_of(alloc: Global, part: PartId, ops: Vec<Numbered>) -> Result<PartSnap, Fail>
+    requires part { part.0 < 2 }
+    requires home { All (λ x. op_part 2 x.op ≡ part.0) ops.items }
+    ensures part { IfOk result (λ store. store.part ≡ part.0) }
+    ensures parts { IfOk result (λ store. store.parts ≡ 2) }
+{
+    let mut store = PartGraph::new(alloc, part, 2)?;
+    let piece = piece_of(part, ops);
     store.apply(Epoch(1), &piece)?;
-    Ok(store)
+    let snap = store.snap().share()?;
+    Ok(snap)
 }
 
 fn at_first(op: Op) -> Numbered
@@ -84,8 +93,10 @@ fn assert_halves<R: Abort, L: Ledger>(rt: &R, snap: &Snap, blank: Blank)
     requires parts { (blank.parts ≡ L.parts) × (0 < L.parts) }
 {
     let mut steps = Steps::<L>::new(blank);
-    assert!(rt; snap.out(FOLLOWER, &mut steps) == [half(FOLLOWED)].as_slice());
-    assert!(rt; snap.inn(FOLLOWED, &mut steps) == [half(FOLLOWER)].as_slice());
+    assert_eq!(rt; snap.out(FOLLOWER, &mut steps).len(), 1);
+    assert!(rt; snap.out(FOLLOWER, &mut steps).iter().all(|x| *x == half(FOLLOWED)));
+    assert_eq!(rt; snap.inn(FOLLOWED, &mut steps).len(), 1);
+    assert!(rt; snap.inn(FOLLOWED, &mut steps).iter().all(|x| *x == half(FOLLOWER)));
     assert!(rt; snap.inn(FOLLOWER, &mut steps).is_empty());
 }
 

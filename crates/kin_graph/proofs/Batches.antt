@@ -1,50 +1,17 @@
--- Operations in turn: one more of them, taken back, and counts that grow.
-use Rattle.std.proofs.Common.{◌≡◌, ℕ, zero, suc, ◌+◌, ◌-◌, ◌<◌, ◌≤◌, Bool, true, false, if◌then◌else◌, List, [], ◌∷◌, ◌++◌, length, get_or, take, drop, drop-cons, refl, sym, ap, ◌∙◌, subst, arith, add-one}
-use Rattle.std.proofs.lemmas.List.{take_more, length-take}
-use Rattle.std.specs.Cmp.{Equal-is}
+-- Operations in turn: one more of them, and counts that grow.
+use Rattle.std.proofs.Common.{◌≡◌, ℕ, suc, ◌+◌, ◌<◌, ◌≤◌, Bool, true, false, if◌then◌else◌, List, [], ◌∷◌, length, get_or, drop, drop-cons, refl, sym, ap, ◌∙◌, subst, arith, add-one}
 use Rattle.kin_ids.specs.declared.ids.User.{User}
 use Rattle.kin_ids.specs.declared.stamps.Place.{Place}
 use Rattle.kin_ids.specs.declared.ops.Op.{Op}
 use Rattle.kin_ids.specs.declared.ops.Op.TheVariants as op
 use Rattle.kin_ids.specs.declared.ops.Numbered.{Numbered}
-use Rattle.kin_ids.specs.Users.{user_cmp, same_user}
-use Rattle.kin_graph.specs.declared.changes.Change.{Change}
-use Rattle.kin_graph.specs.declared.changes.Change.TheVariants as change
+use Rattle.kin_ids.specs.Users.{same_user}
+use Rattle.kin_ids.proofs.Same.{same_user-true}
 use Rattle.kin_graph.specs.Rows.{UserRow, row_applied}
-use Rattle.kin_graph.specs.Changes.{Kept, with_row, done, done_all, undone, undone_all}
-use Rattle.kin_graph.proofs.Stores.{user_exact}
+use Rattle.kin_graph.specs.Changes.{Kept, with_row, done, done_all}
 
 abbrev pub place_in : ℕ → ℕ → Numbered → Place
 place_in e i x = record { epoch = record { 0 = e }; ingest = record { 0 = i }; number = x.number }
-
-pub undone_all-none : (ops : List Numbered) (k : Kept) → undone_all ops [] k ≡ k
-undone_all-none [] k = refl
-undone_all-none (x ∷ xs) k = refl
-
--- the last change is taken back first
-pub undone_all-push : (ops : List Numbered) (cs : List Change) (c : Change) (d : Numbered) (k : Kept) → length cs < length ops
-    → undone_all ops (cs ++ c ∷ []) k ≡ undone_all ops cs (undone (get_or ops (length cs) d).op c k)
-undone_all-push [] cs c d k h = absurd (omega arith)
-undone_all-push (x ∷ xs) [] c d k h = ap (λ (n : Kept). undone x.op c n) (undone_all-none xs k)
-undone_all-push (x ∷ xs) (b ∷ cs) c d k h = ap (λ (n : Kept). undone x.op b n) (undone_all-push xs cs c d k (omega arith))
-
--- the changes so far and one more
-pub undone_all-more : (ops : List Numbered) (cs : List Change) (c : Change) (x : Numbered) (k n : Kept) (i : ℕ) → length cs ≡ i → i < length ops → x ≡ get_or ops i x → undone x.op c n ≡ k
-    → undone_all ops (cs ++ c ∷ []) n ≡ undone_all ops cs k
-undone_all-more ops cs c x k n i long within is back =
-    let short : length cs < length ops = omega arith in
-    let at : get_or ops (length cs) x ≡ x = ap (λ (j : ℕ). get_or ops j x) long ∙ sym is in
-    undone_all-push ops cs c x n short ∙ (ap (λ (y : Numbered). undone_all ops cs (undone y.op c n)) at ∙ ap (λ (m : Kept). undone_all ops cs m) back)
-
--- the changes but for the last one, once it is taken back
-pub undone_all-less : (ops : List Numbered) (cs : List Change) (d : Change) (x : Numbered) (k n : Kept) (i : ℕ) → 0 < i → i ≤ length cs → length cs ≤ length ops → x ≡ get_or ops (i - 1) x
-    → n ≡ undone (get_or ops (i - 1) x).op (get_or cs (i - 1) d) k → undone_all ops (take (i - 1) cs) n ≡ undone_all ops (take i cs) k
-undone_all-less ops cs d x k n i some within few is new =
-    let j : i ≡ i - 1 + 1 = omega arith in
-    let more : take i cs ≡ take (i - 1) cs ++ get_or cs (i - 1) d ∷ [] = ap (λ (m : ℕ). take m cs) j ∙ take_more cs (i - 1) d (omega arith) in
-    let long : length (take (i - 1) cs) ≡ i - 1 = omega (arith, length-take (i - 1) cs) in
-    let back : undone x.op (get_or cs (i - 1) d) k ≡ n = sym (new ∙ ap (λ (y : Numbered). undone y.op (get_or cs (i - 1) d) k) (sym is)) in
-    sym (ap (λ (bs : List Change). undone_all ops bs k) more ∙ undone_all-more ops (take (i - 1) cs) (get_or cs (i - 1) d) x n k (i - 1) long (omega arith) is back)
 
 -- one operation more
 pub done_all-more : (e i : ℕ) (k : Kept) (ops : List Numbered) (n : ℕ) (x : Numbered) → n < length ops → x ≡ get_or ops n x
@@ -66,7 +33,7 @@ row-grows at r (op.TagUse t u) = omega arith
 with_row-grows : (k : Kept) (w : User) (r : UserRow) (u : User) → (k.row w).said ≤ r.said → (k.row u).said ≤ ((with_row k w r).row u).said
 with_row-grows k w r u h = by_test (same_user w u) refl where
   by_test : (b : Bool) → same_user w u ≡ b → (k.row u).said ≤ (if b then r else k.row u).said
-  by_test true t = subst (λ (v : User). (k.row v).said ≤ r.said) (user_exact w u ((Equal-is (user_cmp w u)).0 t)) h
+  by_test true t = subst (λ (v : User). (k.row v).said ≤ r.said) (same_user-true w u t) h
   by_test false t = omega arith
 
 done-grows : (at : Place) (k : Kept) (o : Op) (u : User) → (k.row u).said ≤ ((done at k o).row u).said

@@ -1,22 +1,17 @@
 -- How a caller meets the conditions of applying a piece.
-use Rattle.std.proofs.Common.{◌≡◌, ℕ, ◌+◌, ◌<◌, ◌≤◌, ◌%◌, ◌==◌, Bool, true, false, if◌then◌else◌, List, [], ◌∷◌, All, length, refl, sym, ap, ◌∙◌, subst, arith}
-use Rattle.std.specs.Cmp.{Equal-is}
-use Rattle.std.proofs.lemmas.Bool.Decides.{nat_tests}
-use Rattle.std.proofs.lemmas.List.Elements.{filter_passes}
+use Rattle.std.proofs.Common.{◌≡◌, ℕ, ◌+◌, ◌≤◌, ◌%◌, List, All, length, sym, ap, subst, arith}
 use Rattle.kin_ids.specs.declared.ids.User.{User}
-use Rattle.kin_ids.specs.declared.stamps.Place.{Place}
 use Rattle.kin_ids.specs.declared.ops.Piece.{Piece}
 use Rattle.kin_ids.specs.declared.ops.Numbered.{Numbered}
 use Rattle.kin_ids.specs.declared.ops.Op.{Op}
 use Rattle.kin_ids.specs.declared.ops.Op.TheVariants as op
 use Rattle.kin_ids.specs.declared.ops.Record.{Record}
-use Rattle.kin_ids.specs.Users.{user_cmp, same_user}
-use Rattle.kin_ids.specs.Operations.{Fits, op_part, all_ops, stamp_records}
-use Rattle.kin_ids.specs.Parts.{PartView, op_applied, ops_applied}
+use Rattle.kin_ids.specs.Operations.{Fits, op_part, stamp_records}
+use Rattle.kin_ids.specs.Parts.{PartView}
 use Rattle.kin_ids.proofs.PartOps.{ops-said, part-home}
-use Rattle.kin_graph.specs.State.{after}
-use Rattle.kin_graph.proofs.Stores.{user_exact}
-use Rattle.kin_graph.proofs.Batches.{place_in}
+use Rattle.kin_store.proofs.Empties.{empty-row}
+use Rattle.kin_graph.specs.Rows.{UserRow}
+use Rattle.kin_graph.specs.State.{after, empty_part, view_of}
 
 -- a fitting piece has operations of its own partition alone
 pub fits-home : (parts : ℕ) (feeds : List (List Record)) (x : Piece) → Fits parts feeds x → All (λ (o : Numbered). op_part parts o.op ≡ x.part.0) x.ops
@@ -42,3 +37,7 @@ one-home (op.MentionIn w u) = mod_one w.0
 one-home (op.Said w) = mod_one w.0
 one-home (op.Use u t) = mod_one u.0
 one-home (op.TagUse t u) = mod_one _
+
+-- nobody was mentioned yet in an empty store
+pub empty-said : (p n : ℕ) (u : User) → (view_of (empty_part p n)).said u ≡ 0
+empty-said p n u = ap (λ (r : UserRow). r.said) (empty-row p n u)

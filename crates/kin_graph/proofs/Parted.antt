@@ -1,17 +1,16 @@
 -- What is kept, as the view of a part: operations do to the one what they do to the other.
-use Rattle.std.proofs.Common.{◌≡◌, ℕ, Bool, true, false, if◌then◌else◌, List, [], ◌∷◌, refl, sym, ap, ◌∙◌}
-use Rattle.std.specs.Cmp.{Equal-is}
+use Rattle.std.proofs.Common.{◌≡◌, ℕ, Bool, true, false, if◌then◌else◌, List, [], ◌∷◌, refl, ap, ◌∙◌}
 use Rattle.kin_ids.specs.declared.ids.User.{User}
 use Rattle.kin_ids.specs.declared.stamps.Place.{Place}
 use Rattle.kin_ids.specs.declared.ops.Half.{Half}
 use Rattle.kin_ids.specs.declared.ops.Op.{Op}
 use Rattle.kin_ids.specs.declared.ops.Op.TheVariants as op
 use Rattle.kin_ids.specs.declared.ops.Numbered.{Numbered}
-use Rattle.kin_ids.specs.Users.{user_cmp, same_user}
-use Rattle.kin_ids.specs.Parts.{PartView, with_half, without_half, with_member, with_first, changed, op_applied, ops_applied}
+use Rattle.kin_ids.specs.Users.{same_user}
+use Rattle.kin_ids.proofs.Same.{same_user-true}
+use Rattle.kin_ids.specs.Parts.{PartView, with_half, without_half, changed, op_applied, ops_applied}
 use Rattle.kin_graph.specs.Rows.{UserRow, row_applied}
 use Rattle.kin_graph.specs.Changes.{Kept, with_row, done, done_all}
-use Rattle.kin_graph.proofs.Stores.{user_exact}
 use Rattle.kin_graph.proofs.Batches.{place_in}
 
 -- what is handed out of rows and users of tags
@@ -37,7 +36,7 @@ read-changed p f u r q = by_test (same_user u q) where
 read-same : {A : Type 0} (p : UserRow → A) (f : User → UserRow) (u : User) (r : UserRow) → p r ≡ p (f u) → (q : User) → p (changed f u r q) ≡ p (f q)
 read-same p f u r e q = by_test (same_user u q) refl where
   by_test : (b : Bool) → same_user u q ≡ b → p (if b then r else f q) ≡ p (f q)
-  by_test true t = e ∙ ap (λ (v : User). p (f v)) (user_exact u q ((Equal-is (user_cmp u q)).0 t))
+  by_test true t = e ∙ ap (λ (v : User). p (f v)) (same_user-true u q t)
   by_test false t = refl
 
 module _ (k : Kept) (u : User) (r : UserRow) where

@@ -1,16 +1,18 @@
 -- What a delta between two versions of a partition's part tells.
 use Rattle.std.specs.Prelude.{◌≡◌, ℕ, nat_lt, ◌-◌, ◌&&◌, not, Bool, true, false, List, [], ◌∷◌}
 use Rattle.std.specs.Prelude.{filter, Option, Some, None, is_some}
-use Rattle.std.specs.List.{find}
+use Rattle.std.specs.Arc.{arc_value}
+use Rattle.std.specs.declared.sync.Arc.{Arc}
 use Rattle.kin_ids.specs.declared.ids.User.{User}
 use Rattle.kin_ids.specs.declared.ops.Half.{Half}
 use Rattle.kin_ids.specs.declared.ops.Use.{Use}
 use Rattle.kin_ids.specs.Users.{same_user, same_tag, has_user}
 use Rattle.kin_ids.specs.Parts.{PartView}
-use Rattle.kin_graph.specs.declared.deltas.Pair.{Pair}
+use Rattle.kin_store.specs.declared.pairs.Pair.{Pair}
 use Rattle.kin_graph.specs.declared.deltas.SaidRow.{SaidRow}
 use Rattle.kin_graph.specs.declared.deltas.UseRow.{UseRow}
-use Rattle.kin_graph.specs.declared.deltas.TagUser.{TagUser}
+use Rattle.kin_store.specs.declared.pairs.TagUser.{TagUser}
+pub use Rattle.kin_store.specs.Lists.{half_to, use_of}
 
 -- The lists of a delta.
 pub record DeltaLists : Type 0 where
@@ -42,13 +44,10 @@ no_change = record {
   tag_users = [];
 }
 
--- the half with this other end, where it was ever added
-abbrev pub half_to : List Half → User → Option Half
-half_to halves w = find (λ h. same_user w h.other) halves
-
--- the use of a tag, where there is one
-abbrev pub use_of : List Use → List ℕ → Option Use
-use_of uses t = find (λ x. same_tag t x.tag) uses
+-- the lists behind a pointer, where there is one
+abbrev pub lists_of : {Z : Type 0} → Option (Arc DeltaLists Z) → DeltaLists
+lists_of None = no_change
+lists_of (Some a) = arc_value a
 
 -- whether a half was ever added and is there now
 abbrev pub is_present : Option Half → Bool
@@ -111,8 +110,3 @@ pub record IsDelta (was is : PartView) (d : DeltaLists) : Type 0 where
       ≡ new_use u (use_of (was.uses u) t) (use_of (is.uses u) t)
   pub tag_users : (t : List ℕ) (u : User) → filter (λ x. same_tag t x.tag && same_user u x.user) d.tag_users
       ≡ one_if (has_user (is.tag_users t) u && not (has_user (was.tag_users t) u)) (record { tag = t; user = u })
-
--- every half that was ever added is still known
-pub record KeepsHalves (was is : PartView) : Type 0 where
-  pub out : (p : Pair) → is_some (pair_in was.out p) ≡ true → is_some (pair_in is.out p) ≡ true
-  pub inn : (p : Pair) → is_some (pair_in was.inn p) ≡ true → is_some (pair_in is.inn p) ≡ true

@@ -5,4 +5,6 @@ pub mod State
 pub mod Changes
 pub mod Views
 pub mod Deltas
-pub mod Told
+pub mod Touches
+pub mod Gathered
+pub mod Tells

@@ -1,202 +1,268 @@
-//! The difference between two stores of one partition: what is in the later one is looked up in the earlier one.
+//! The difference between two stores of one partition: what was touched is looked up in both.
 
-ghost use Rattle.std.specs.Prelude.{◌≡◌, [], ◌++◌, IfOk, OnOk, All, Some};
-ghost use Rattle.kin_ids.specs.Users.{tag_cmp, user_cmp};
-ghost use Rattle.kin_graph.specs.Lists.{HasKeysOnce};
-ghost use Rattle.kin_graph.specs.Rows.{no_row};
-ghost use Rattle.kin_graph.specs.State.{view_of};
-ghost use Rattle.kin_graph.specs.Deltas.{IsDelta, KeepsHalves};
-ghost use Rattle.kin_graph.specs.Told.{halves_told, member_pairs, noted, row_told, tag_rows, tag_told, use_rows, OnceInRow};
-ghost use Rattle.kin_graph.specs.Told.{row_in, rows_told, tags_told, users_in};
+ghost use Rattle.std.specs.Prelude.{◌≡◌, ◌++◌, ◌&&◌, not, IfOk, OnOk};
+ghost use Rattle.std.specs.List.Sorted.{IsStrictlySortedBy};
+ghost use Rattle.kin_ids.specs.Users.{has_user, user_cmp};
+ghost use Rattle.kin_store.specs.Pairs.{pair_cmp, tag_user_cmp};
+ghost use Rattle.kin_store.specs.State.{row_of, users_of, view_of};
+ghost use Rattle.kin_store.specs.Changes.{kept};
+ghost use Rattle.kin_store.specs.Hints.{IsIndexed, Precedes};
+ghost use Rattle.kin_graph.specs.Deltas.{is_met, is_present, new_use, one_if, pair_in, use_of, IsDelta};
+ghost use Rattle.kin_graph.specs.Gathered.{also_told, in_changes, out_changes, IsFilled, IsNoted};
+ghost use Rattle.kin_graph.specs.Gathered.{new_mentioners, new_mentions, new_tag_users, new_uses, said_more};
+ghost use Rattle.kin_graph.specs.Touches.{IsTouched};
 
-use crate::deltas::{Delta, HalfChanges, Pair, Pairs, SaidRow, TagUser, UseRow};
-use crate::first_added::FirstAdded;
-use crate::halves::Halves;
+use crate::deltas::{Delta, HalfChanges, Lists, Pairs, SaidRow, UseRow};
 use crate::part_graphs::PartGraph;
-use crate::rows::{Row, Users, UsesByTag};
-use kin_ids::{Half, ListOf, Memory, Tag, Use, User};
+use crate::touched::Touched;
+use kin_ids::{Half, ListOf, Memory, Use, User};
+use kin_store::{Index, Pair, PartSnap, TagUser};
 use std::alloc::Global;
-use std::collections::BTreeMap;
+use std::collections::BTreeSet;
 
-/// What differs between two versions of one partition's store. In the later one every half of the earlier one is known.
-/// O(n log n) for the n items of the later one.
-pub fn delta(old: &PartGraph, new: &PartGraph) -> Result<Delta, Memory>
-    requires { KeepsHalves (view_of old.now) (view_of new.now) }
-    ensures { IfOk result (λ d. IsDelta (view_of old.now) (view_of new.now) d) }
-{
-    let mut delta = Delta::new(new.alloc);
-    tell_rows(&mut delta, new.alloc, &old.rows, &new.rows)?;
-    tell_tags(&mut delta, new.alloc, &old.tags, &new.tags)?;
-    Ok(delta)
-}
-
-// The user's row, or else the blank one.
-fn row_or<'a>(rows: &'a BTreeMap<User, Row>, user: User, blank: &'a Row) -> &'a Row
-    requires { blank.now ≡ no_row }
-    ensures { result.now ≡ row_in rows.now.entries user }
-{
-    match rows.get(&user) {
-        Some(row) => row,
-        None => blank,
-    }
-}
-
-// The tag's users, or else nobody.
-fn users_or<'a>(tags: &'a BTreeMap<Tag, Users>, tag: Tag, nobody: &'a Users) -> &'a Users
-    requires { nobody.now ≡ [] }
-    ensures { result.now ≡ users_in tags.now.entries tag }
-{
-    match tags.get(&tag) {
-        Some(users) => users,
-        None => nobody,
-    }
-}
-
-// The rows of all users as they were and as they are.
-fn tell_rows(
-    delta: &mut Delta,
-    alloc: Global,
-    old: &BTreeMap<User, Row>,
-    new: &BTreeMap<User, Row>,
-) -> Result<(), Memory>
-    ensures told { OnOk result (delta.new ≡ rows_told (λ u. row_in old.now.entries u) new.now.entries delta.old) }
-    ensures once { OnOk result (All (λ e. OnceInRow e.1) new.now.entries) }
-{
-    let blank = Row::new(alloc);
-    for (user, is) in new {
-        let was = row_or(old, *user, &blank);
-        delta.tell_row(*user, was, is)?;
-    }
-    Ok(())
-}
-
-// The users of all tags as they were and as they are.
-fn tell_tags(
-    delta: &mut Delta,
-    alloc: Global,
-    old: &BTreeMap<Tag, Users>,
-    new: &BTreeMap<Tag, Users>,
-) -> Result<(), Memory>
-    ensures told { OnOk result (delta.new ≡ tags_told (λ t. users_in old.now.entries t) new.now.entries delta.old) }
-    ensures once { OnOk result (All (λ e. HasKeysOnce user_cmp (λ u. u) e.1) new.now.entries) }
-{
-    let nobody = FirstAdded::new(alloc);
-    for (tag, is) in new {
-        let was = users_or(old, *tag, &nobody);
-        delta.tell_tag_users(*tag, was, is)?;
-    }
-    Ok(())
-}
-
-impl Delta {
-    // One more user's row as it was and as it is.
-    fn tell_row(&mut self, user: User, was: &Row, is: &Row) -> Result<(), Memory>
-        ensures told { OnOk result (self.new ≡ row_told user was.now is.now self.old) }
-        ensures once { OnOk result (OnceInRow is.now) }
+impl PartGraph {
+    /// What differs between an earlier store of the partition and this one, where only what is noted was touched since.
+    /// O(t log n) for the t notes. What tells nothing keeps no memory.
+    pub fn difference(&self, old: &PartSnap, touched: &Touched) -> Result<Delta, Memory>
+        requires touched { IsTouched touched.now (view_of old.now) (view_of self.now) }
+        requires stays { Precedes (kept old.now) (kept self.now) }
+        ensures { IfOk result (λ d. IsDelta (view_of old.now) (view_of self.now) d) }
     {
-        tell_halves(&mut self.out, user, &was.out, &is.out)?;
-        tell_halves(&mut self.inn, user, &was.inn, &is.inn)?;
-        tell_members(&mut self.mention_out, user, &was.mentions, &is.mentions)?;
-        tell_members(&mut self.mention_in, user, &was.mentioners, &is.mentioners)?;
-        tell_uses(&mut self.uses, user, &was.uses, &is.uses)?;
-        if was.said < is.said {
-            let number = is.said - was.said;
-            self.said.push(SaidRow { user, number })?;
-        }
-        Ok(())
+        let alloc = self.current.alloc();
+        let lists = told(alloc, old, &self.current, &self.index, touched)?;
+        Delta::of(alloc, lists)
     }
+}
 
-    // One more tag's users as they were and as they are.
-    fn tell_tag_users(&mut self, tag: Tag, was: &Users, is: &Users) -> Result<(), Memory>
-        ensures told { OnOk result (self.new ≡ tag_told tag was.now is.now self.old) }
-        ensures once { OnOk result (HasKeysOnce user_cmp (λ u. u) is.now) }
-    {
-        tell_tag(&mut self.tag_users, tag, was, is)
+// What is told of everything that was touched.
+fn told(
+    alloc: Global,
+    was: &PartSnap,
+    is: &PartSnap,
+    index: &Index,
+    touched: &Touched,
+) -> Result<Lists, Memory>
+    requires was { IsIndexed (kept was.now) index.now }
+    requires is { IsIndexed (kept is.now) index.now }
+    ensures noted { OnOk result (IsNoted touched.now) }
+    ensures filled { IfOk result (λ d. IsFilled touched.now (view_of was.now) (view_of is.now) d) }
+{
+    Ok(Lists {
+        out: out_changes(alloc, was, is, index, &touched.out)?,
+        inn: in_changes(alloc, was, is, index, &touched.inn)?,
+        mention_out: new_mentions(alloc, was, is, index, &touched.mentions)?,
+        mention_in: new_mentioners(alloc, was, is, index, &touched.mentioners)?,
+        said: said_more(alloc, was, is, &touched.said)?,
+        uses: new_uses(alloc, was, is, index, &touched.uses)?,
+        tag_users: new_tag_users(alloc, was, is, index, &touched.tag_users)?,
+    })
+}
+
+// What changed of the follow halves out of users.
+fn out_changes(
+    alloc: Global,
+    was: &PartSnap,
+    is: &PartSnap,
+    index: &Index,
+    touched: &BTreeSet<Pair>,
+) -> Result<HalfChanges, Memory>
+    requires was { IsIndexed (kept was.now) index.now }
+    requires is { IsIndexed (kept is.now) index.now }
+    ensures ordered { IsStrictlySortedBy pair_cmp touched.now.keys }
+    ensures told { IfOk result (λ c. c ≡ out_changes (view_of was.now) (view_of is.now) touched.now.keys) }
+{
+    let mut changes = HalfChanges::none(alloc);
+    for pair in touched.iter() {
+        let before = was.out_half(index, *pair);
+        let after = is.out_half(index, *pair);
+        changes.tell(*pair, before, after)?;
     }
+    Ok(changes)
+}
+
+// What changed of the follow halves into users.
+fn in_changes(
+    alloc: Global,
+    was: &PartSnap,
+    is: &PartSnap,
+    index: &Index,
+    touched: &BTreeSet<Pair>,
+) -> Result<HalfChanges, Memory>
+    requires was { IsIndexed (kept was.now) index.now }
+    requires is { IsIndexed (kept is.now) index.now }
+    ensures ordered { IsStrictlySortedBy pair_cmp touched.now.keys }
+    ensures told { IfOk result (λ c. c ≡ in_changes (view_of was.now) (view_of is.now) touched.now.keys) }
+{
+    let mut changes = HalfChanges::none(alloc);
+    for pair in touched.iter() {
+        let before = was.in_half(index, *pair);
+        let after = is.in_half(index, *pair);
+        changes.tell(*pair, before, after)?;
+    }
+    Ok(changes)
+}
+
+// The users who mention somebody whom they didn't.
+fn new_mentions(
+    alloc: Global,
+    was: &PartSnap,
+    is: &PartSnap,
+    index: &Index,
+    touched: &BTreeSet<Pair>,
+) -> Result<Pairs, Memory>
+    requires was { IsIndexed (kept was.now) index.now }
+    requires is { IsIndexed (kept is.now) index.now }
+    ensures ordered { IsStrictlySortedBy pair_cmp touched.now.keys }
+    ensures told { IfOk result (λ ps. ps ≡ new_mentions (view_of was.now) (view_of is.now) touched.now.keys) }
+{
+    let mut pairs = ListOf::new(alloc);
+    for pair in touched.iter() {
+        let before = was.mentions_user(index, *pair);
+        let after = is.mentions_user(index, *pair);
+        put_if(&mut pairs, came(before, after), *pair)?;
+    }
+    Ok(pairs)
+}
+
+// The users whom somebody mentions who didn't.
+fn new_mentioners(
+    alloc: Global,
+    was: &PartSnap,
+    is: &PartSnap,
+    index: &Index,
+    touched: &BTreeSet<Pair>,
+) -> Result<Pairs, Memory>
+    requires was { IsIndexed (kept was.now) index.now }
+    requires is { IsIndexed (kept is.now) index.now }
+    ensures ordered { IsStrictlySortedBy pair_cmp touched.now.keys }
+    ensures told { IfOk result (λ ps. ps ≡ new_mentioners (view_of was.now) (view_of is.now) touched.now.keys) }
+{
+    let mut pairs = ListOf::new(alloc);
+    for pair in touched.iter() {
+        let before = was.mentioned_by(index, *pair);
+        let after = is.mentioned_by(index, *pair);
+        put_if(&mut pairs, came(before, after), *pair)?;
+    }
+    Ok(pairs)
+}
+
+// By how much the numbers of items that mention users grew.
+fn said_more(
+    alloc: Global,
+    was: &PartSnap,
+    is: &PartSnap,
+    touched: &BTreeSet<User>,
+) -> Result<ListOf<SaidRow>, Memory>
+    ensures ordered { IsStrictlySortedBy user_cmp touched.now.keys }
+    ensures told { IfOk result (λ rs. rs ≡ said_more (view_of was.now) (view_of is.now) touched.now.keys) }
+{
+    let mut rows = ListOf::new(alloc);
+    for user in touched.iter() {
+        let before = was.row(*user).said();
+        let after = is.row(*user).said();
+        let row = SaidRow {
+            user: *user,
+            number: after.saturating_sub(before),
+        };
+        put_if(&mut rows, before < after, row)?;
+    }
+    Ok(rows)
+}
+
+// The tags that users have used and hadn't.
+fn new_uses(
+    alloc: Global,
+    was: &PartSnap,
+    is: &PartSnap,
+    index: &Index,
+    touched: &BTreeSet<TagUser>,
+) -> Result<ListOf<UseRow>, Memory>
+    requires was { IsIndexed (kept was.now) index.now }
+    requires is { IsIndexed (kept is.now) index.now }
+    ensures ordered { IsStrictlySortedBy tag_user_cmp touched.now.keys }
+    ensures told { IfOk result (λ rs. rs ≡ new_uses (view_of was.now) (view_of is.now) touched.now.keys) }
+{
+    let mut rows = ListOf::new(alloc);
+    for used in touched.iter() {
+        let before = was.first_use(index, used.user, used.tag);
+        let after = is.first_use(index, used.user, used.tag);
+        put_use(&mut rows, used.user, before, after)?;
+    }
+    Ok(rows)
+}
+
+// The users who have used a tag and hadn't.
+fn new_tag_users(
+    alloc: Global,
+    was: &PartSnap,
+    is: &PartSnap,
+    index: &Index,
+    touched: &BTreeSet<TagUser>,
+) -> Result<ListOf<TagUser>, Memory>
+    requires was { IsIndexed (kept was.now) index.now }
+    requires is { IsIndexed (kept is.now) index.now }
+    ensures ordered { IsStrictlySortedBy tag_user_cmp touched.now.keys }
+    ensures told { IfOk result (λ rs. rs ≡ new_tag_users (view_of was.now) (view_of is.now) touched.now.keys) }
+{
+    let mut rows = ListOf::new(alloc);
+    for used in touched.iter() {
+        let before = was.has_tag_user(index, used.tag, used.user);
+        let after = is.has_tag_user(index, used.tag, used.user);
+        put_if(&mut rows, came(before, after), *used)?;
+    }
+    Ok(rows)
 }
 
 impl HalfChanges {
     // One more pair, whose half was and is so.
-    fn note(&mut self, pair: Pair, was: Option<Half>, is: Half) -> Result<(), Memory>
-        ensures { OnOk result (self.new ≡ noted pair was (Some is) self.old) }
+    fn tell(&mut self, pair: Pair, was: Option<Half>, is: Option<Half>) -> Result<(), Memory>
+        ensures { OnOk result (self.new ≡ also_told pair was is self.old) }
     {
-        let was_present = was.is_some_and(|half| half.present);
-        if was.is_none() {
-            self.added.push(pair)?;
-        }
-        if is.present && !was_present {
-            self.present.push(pair)?;
-        }
-        if was_present && !is.present {
-            self.gone.push(pair)?;
-        }
-        Ok(())
+        let (was_here, is_here) = (is_present(was), is_present(is));
+        put_if(&mut self.added, came(was.is_some(), is.is_some()), pair)?;
+        put_if(&mut self.present, came(was_here, is_here), pair)?;
+        put_if(&mut self.gone, came(is_here, was_here), pair)
     }
 }
 
-// What changed of a user's halves on one side.
-fn tell_halves(
-    changes: &mut HalfChanges,
-    user: User,
-    was: &Halves,
-    is: &Halves,
-) -> Result<(), Memory>
-    ensures told { OnOk result (changes.new ≡ halves_told user was.now is.now changes.old) }
-    ensures once { OnOk result (HasKeysOnce user_cmp (λ h. h.other) is.now) }
+// Whether a half was ever added and is there now.
+fn is_present(half: Option<Half>) -> bool
+    ensures { result ≡ is_present half }
 {
-    for half in is.distinct() {
-        let pair = Pair {
-            user,
-            other: half.other,
-        };
-        changes.note(pair, was.get(half.other), *half)?;
+    match half {
+        Some(half) => half.present,
+        None => false,
+    }
+}
+
+// Whether it is so and wasn't.
+fn came(was: bool, is: bool) -> bool
+    ensures { result ≡ (is && not was) }
+{
+    is && !was
+}
+
+// Appends an item that passes.
+fn put_if<T: Drop>(list: &mut ListOf<T>, passes: bool, item: T) -> Result<(), Memory>
+    ensures { OnOk result (list.new ≡ list.old ++ one_if passes item) }
+{
+    if passes {
+        list.push(item)?;
     }
     Ok(())
 }
 
-// Whom a user mentions now and didn't, or who mentions it now and didn't.
-fn tell_members(pairs: &mut Pairs, user: User, was: &Users, is: &Users) -> Result<(), Memory>
-    ensures told { OnOk result (pairs.new ≡ pairs.old ++ member_pairs user was.now is.now) }
-    ensures once { OnOk result (HasKeysOnce user_cmp (λ u. u) is.now) }
-{
-    for other in is.distinct() {
-        if was.place(*other).is_none() {
-            let other = *other;
-            pairs.push(Pair { user, other })?;
-        }
-    }
-    Ok(())
-}
-
-// The tags that a user has used and hadn't.
-fn tell_uses(
+// Appends the use that there is, where there was none.
+fn put_use(
     rows: &mut ListOf<UseRow>,
     user: User,
-    was: &UsesByTag,
-    is: &UsesByTag,
+    was: Option<Use>,
+    is: Option<Use>,
 ) -> Result<(), Memory>
-    ensures told { OnOk result (rows.new ≡ rows.old ++ use_rows user was.now is.now) }
-    ensures once { OnOk result (HasKeysOnce tag_cmp (λ x. x.tag) is.now) }
+    ensures { OnOk result (rows.new ≡ rows.old ++ new_use user was is) }
 {
-    for entry in is.distinct() {
-        if was.place(entry.tag).is_none() {
-            let entry = *entry;
-            rows.push(UseRow { user, entry })?;
-        }
+    match (was, is) {
+        (None, Some(entry)) => rows.push(UseRow { user, entry }),
+        _ => Ok(()),
     }
-    Ok(())
-}
-
-// Who has used a tag and hadn't.
-fn tell_tag(rows: &mut ListOf<TagUser>, tag: Tag, was: &Users, is: &Users) -> Result<(), Memory>
-    ensures told { OnOk result (rows.new ≡ rows.old ++ tag_rows tag was.now is.now) }
-    ensures once { OnOk result (HasKeysOnce user_cmp (λ u. u) is.now) }
-{
-    for user in is.distinct() {
-        if was.place(*user).is_none() {
-            let user = *user;
-            rows.push(TagUser { tag, user })?;
-        }
-    }
-    Ok(())
 }

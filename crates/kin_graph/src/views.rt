@@ -3,7 +3,8 @@
 ghost use Rattle.std.specs.Prelude.{◌≡◌};
 
 use crate::Steps;
-use kin_ids::{Half, Memory, Tag, Use, User};
+use kin_ids::{Memory, Tag, User};
+use kin_store::{Halves, UseList, Users};
 use std::sync::ledger::Ledger;
 
 /// A graph, or a part of one, that is read user by user and tag by tag. Its edges are read only by the four calls that
@@ -38,7 +39,7 @@ pub trait View {
         ensures { result ≡ (seen self.now).said u };
 
     /// The user's first uses of tags.
-    fn uses(&self, u: User) -> &[Use]
+    fn uses(&self, u: User) -> &UseList
         ensures { result.now ≡ (seen self.now).uses u };
 
     /// How many users have used the tag.
@@ -46,22 +47,22 @@ pub trait View {
         ensures { result ≡ length ((seen self.now).tag_users t) };
 
     /// The follow halves out of the user that were ever added, in the order of first adding.
-    fn out<'a, L: Ledger>(&'a self, u: User, steps: &mut Steps<L>) -> &'a [Half]
+    fn out<'a, L: Ledger>(&'a self, u: User, steps: &mut Steps<L>) -> &'a Halves
         ensures halves { result.now ≡ (seen self.now).out u }
         ensures ticks { steps.new ≡ steps.old + 1 + length ((seen self.now).out u) };
 
     /// The follow halves into the user that were ever added, in the order of first adding.
-    fn inn<'a, L: Ledger>(&'a self, u: User, steps: &mut Steps<L>) -> &'a [Half]
+    fn inn<'a, L: Ledger>(&'a self, u: User, steps: &mut Steps<L>) -> &'a Halves
         ensures halves { result.now ≡ (seen self.now).inn u }
         ensures ticks { steps.new ≡ steps.old + 1 + length ((seen self.now).inn u) };
 
     /// The users whom the user mentions.
-    fn mentions<'a, L: Ledger>(&'a self, u: User, steps: &mut Steps<L>) -> &'a [User]
+    fn mentions<'a, L: Ledger>(&'a self, u: User, steps: &mut Steps<L>) -> &'a Users
         ensures users { result.now ≡ (seen self.now).mentions u }
         ensures ticks { steps.new ≡ steps.old + 1 + length ((seen self.now).mentions u) };
 
     /// The users who mention the user.
-    fn mentioners<'a, L: Ledger>(&'a self, u: User, steps: &mut Steps<L>) -> &'a [User]
+    fn mentioners<'a, L: Ledger>(&'a self, u: User, steps: &mut Steps<L>) -> &'a Users
         ensures users { result.now ≡ (seen self.now).mentioners u }
         ensures ticks { steps.new ≡ steps.old + 1 + length ((seen self.now).mentioners u) };
 }

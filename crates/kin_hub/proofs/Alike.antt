@@ -1,15 +1,17 @@
 -- Vectors that are the same at every node, up to the last cut, stand alike.
-use Rattle.std.proofs.Common.{◌≡◌, ℕ, ◌+◌, ◌<◌, ◌∙◌, List, subst, arith, length}
+use Rattle.std.proofs.Common.{◌≡◌, ℕ, ◌+◌, ◌-◌, ◌<◌, ◌∙◌, List, subst, arith, length}
 use Rattle.kin_ids.specs.declared.ops.Record.{Record}
 use Rattle.kin_ids.specs.declared.stamps.Stamp.{Stamp}
 use Rattle.kin_ids.specs.Graph.{Graph}
+use Rattle.kin_ids.specs.Order.{snapshot}
 use Rattle.kin_ids.specs.Parts.{IsPart}
 use Rattle.kin_ids.proofs.Alike.{snapshot-alike}
 use Rattle.kin_graph.specs.State.{view_of}
+use Rattle.kin_graph.specs.Tells.{Tells}
 use Rattle.kin_table.specs.Vectors.{end_at, vector_at}
 use Rattle.kin_table.specs.Tables.{agreed_of, cuts_of}
 use Rattle.kin_hub.specs.Cores.{CoreView}
-use Rattle.kin_hub.specs.Hubs.{HubView, committed_in, store_in}
+use Rattle.kin_hub.specs.Hubs.{HubView, committed_in, store_in, delta_in}
 use Rattle.kin_hub.specs.Lines.{IsHubEnd}
 use Rattle.kin_hub.specs.Stands.{Story, CoreStands, HubStands}
 
@@ -47,5 +49,8 @@ module _ (story : Story) (V : ℕ → ℕ → ℕ) where
           floors = λ p i p_lt i_lt. let le = s.stores.within p p_lt in s.stores.floors p i p_lt i_lt ∙ same (committed_in h p) i (omega arith) i_lt;
           stores = λ p k p_lt from to. let le = s.stores.within p p_lt in
               subst (λ (g : Graph). IsPart story.parts p g (view_of (store_in h p k))) (snapshot-alike story.feeds story.vectors V k (λ j i j_le i_lt. same j i (omega arith) i_lt)) (s.stores.stores p k p_lt from to);
+          deltas = λ p k p_lt from to. let le = s.stores.within p p_lt in
+              subst (λ (g : Graph). Tells story.parts p g (snapshot story.feeds V k) (delta_in h p k)) (snapshot-alike story.feeds story.vectors V (k - 1) (λ j i j_le i_lt. same j i (omega arith) i_lt))
+              (subst (λ (g : Graph). Tells story.parts p (snapshot story.feeds story.vectors (k - 1)) g (delta_in h p k)) (snapshot-alike story.feeds story.vectors V k (λ j i j_le i_lt. same j i (omega arith) i_lt)) (s.stores.deltas p k p_lt from to));
         };
       }

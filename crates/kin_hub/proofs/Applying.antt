@@ -4,7 +4,7 @@ use Rattle.std.specs.List.{All, AllByRecursion}
 use Rattle.std.specs.Prelude.{filter}
 use Rattle.std.proofs.lemmas.Bool.{cond_both, eqb-true}
 use Rattle.std.proofs.lemmas.List.{take_more, take-append-drop}
-use Rattle.std.proofs.lemmas.List.Elements.{All-nil, All-cons, All-head, All-tail}
+use Rattle.std.proofs.lemmas.List.Elements.{All-nil, All-append, All-head, All-tail}
 use Rattle.kin_ids.specs.declared.ids.User.{User}
 use Rattle.kin_ids.specs.declared.ops.Op.{Op}
 use Rattle.kin_ids.specs.declared.ops.Op.TheVariants as op
@@ -23,45 +23,18 @@ use Rattle.kin_ids.proofs.Same.{same_user-true}
 use Rattle.kin_ids.proofs.PartOps.{ops-say, part-home}
 use Rattle.kin_ids.proofs.Runs as runs
 use Rattle.kin_ids.proofs.Runs.{HasOps, pieces-part}
-use Rattle.kin_graph.specs.State.{PartState, after}
+use Rattle.kin_graph.specs.State.{PartState}
 use Rattle.kin_held.specs.Chains.{ChainView, chain_at, IsRun, pieces_upto}
 use Rattle.kin_table.specs.Vectors.{end_at}
-use Rattle.kin_hub.specs.Commits.{pieces_applied, nodes_applied, IsOfStore}
+use Rattle.kin_blocks.specs.Blocks.{pieces_applied, IsOfStore}
+use Rattle.kin_blocks.proofs.Applying.{pieces-append}
+use Rattle.kin_hub.specs.Commits.{epoch_pieces}
 use Rattle.kin_hub.specs.Lines.{IsHubPiece}
 
--- nobody is mentioned less after more pieces
-pub said-pieces : (e : ℕ) (v : PartView) (xs : List Piece) (u : User) → v.said u ≤ (pieces_applied e v xs).said u
-said-pieces e v [] u = omega arith
-said-pieces e v (x ∷ xs) u =
-    let one = ops-say e x.stamp.ingest.0 v x.ops u in
-    let more = said-pieces e (after e x v) xs u in
-    omega arith
-
-pub said-nodes : (e : ℕ) (held : List ChainView) (ends : List End) (v : PartView) (i d : ℕ) (u : User) → (nodes_applied e held ends v i).said u ≤ (nodes_applied e held ends v (i + d)).said u
-said-nodes e held ends v i zero u = let same : (nodes_applied e held ends v i).said u ≡ (nodes_applied e held ends v (i + 0)).said u = (let same : i ≡ i + 0 = omega arith in ap (λ (n : ℕ). (nodes_applied e held ends v n).said u) same) in omega arith
-said-nodes e held ends v i (suc d) u =
-    let less = said-nodes e held ends v i d u in
-    let one = said-pieces e (nodes_applied e held ends v (i + d)) (pieces_upto (end_at ends (i + d)).to (chain_at held (i + d)).held) u in
-    let count : suc (i + d) ≡ i + suc d = omega arith in
-    let next : (nodes_applied e held ends v (suc (i + d))).said u ≡ (nodes_applied e held ends v (i + suc d)).said u = ap (λ (n : ℕ). (nodes_applied e held ends v n).said u) count in
-    omega arith
-
--- pieces one after the other
-pub pieces-append : (e : ℕ) (v : PartView) (xs ys : List Piece) → pieces_applied e v (xs ++ ys) ≡ pieces_applied e (pieces_applied e v xs) ys
-pieces-append e v [] ys = refl
-pieces-append e v (x ∷ xs) ys = pieces-append e (after e x v) xs ys
-
--- the first pieces, and one more
-pub pieces-step : (e : ℕ) (v : PartView) (xs : List Piece) (k : ℕ) (x : Piece) → k < length xs → x ≡ get_or xs k x → pieces_applied e v (take (k + 1) xs) ≡ after e x (pieces_applied e v (take k xs))
-pieces-step e v xs k x lt is =
-    ap (pieces_applied e v) (take_more xs k x lt) ∙ (pieces-append e v (take k xs) (get_or xs k x ∷ []) ∙ ap (λ (y : Piece). after e y (pieces_applied e v (take k xs))) (sym is))
-
-pub said-front : (e : ℕ) (v : PartView) (xs : List Piece) (k : ℕ) (u : User) → (pieces_applied e v (take k xs)).said u ≤ (pieces_applied e v xs).said u
-said-front e v xs k u =
-    let more = said-pieces e (pieces_applied e v (take k xs)) (drop k xs) u in
-    let same : (pieces_applied e (pieces_applied e v (take k xs)) (drop k xs)).said u ≡ (pieces_applied e v xs).said u =
-    ap (λ (w : PartView). w.said u) (sym (pieces-append e v (take k xs) (drop k xs)) ∙ ap (pieces_applied e v) (take-append-drop k xs)) in
-    omega arith
+-- what holds of each node's pieces holds of all of the epoch's
+pub All-epoch_pieces : (P : Piece → Type 0) (held : List ChainView) (ends : List End) (n : ℕ) → ((i : ℕ) → i < n → All P (pieces_upto (end_at ends i).to (chain_at held i).held)) → All P (epoch_pieces held ends n)
+All-epoch_pieces P held ends zero all = All-nil P
+All-epoch_pieces P held ends (suc n) all = All-append P (epoch_pieces held ends n) (pieces_upto (end_at ends n).to (chain_at held n).held) (All-epoch_pieces P held ends n (λ i lt. all i (omega arith))) (all n (omega arith))
 
 module _ (parts : ℕ) (feeds : List (List Record)) (p i : ℕ) (bases : List ℕ) (kept : ℕ) where
   abbrev Of : Piece → Type 0
@@ -101,9 +74,11 @@ module _ (parts : ℕ) (feeds : List (List Record)) (p i : ℕ) (bases : List �
 pub nodes-part : (parts : ℕ) (feeds : List (List Record)) (p e : ℕ) (held : List ChainView) (ends : List End) (was now : ℕ → ℕ) (bases : ℕ → List ℕ) (kept : ℕ → ℕ) (g : Graph) (v : PartView) (n : ℕ) →
     ((i : ℕ) → i < n → IsRun (was i) (pieces_upto (end_at ends i).to (chain_at held i).held) (now i)) →
     ((i : ℕ) → i < n → All (λ (x : Piece). IsHubPiece parts feeds p i (bases i) (kept i) x) (pieces_upto (end_at ends i).to (chain_at held i).held)) →
-    IsPart parts p g v → IsPart parts p (folded g (of_epoch feeds e was now n)) (nodes_applied e held ends v n)
+    IsPart parts p g v → IsPart parts p (folded g (of_epoch feeds e was now n)) (pieces_applied e v (epoch_pieces held ends n))
 nodes-part parts feeds p e held ends was now bases kept g v zero runs all part = part
 nodes-part parts feeds p e held ends was now bases kept g v (suc n) runs all part =
     let before = nodes-part parts feeds p e held ends was now bases kept g v n (λ i lt. runs i (omega arith)) (λ i lt. all i (omega arith)) part in
-    subst (λ (graph : Graph). IsPart parts p graph (nodes_applied e held ends v (suc n))) (sym (folded-append g (of_epoch feeds e was now n) (entries e n (was n) (between (feed_at feeds n) (was n) (now n)))))
-    (run-part parts feeds p n (bases n) (kept n) e (was n) (now n) (pieces_upto (end_at ends n).to (chain_at held n).held) (folded g (of_epoch feeds e was now n)) (nodes_applied e held ends v n) (runs n (omega arith)) (all n (omega arith)) before)
+    let more = pieces_upto (end_at ends n).to (chain_at held n).held in
+    subst (λ (graph : Graph). IsPart parts p graph (pieces_applied e v (epoch_pieces held ends (suc n)))) (sym (folded-append g (of_epoch feeds e was now n) (entries e n (was n) (between (feed_at feeds n) (was n) (now n)))))
+    (subst (λ (w : PartView). IsPart parts p (folded (folded g (of_epoch feeds e was now n)) (entries e n (was n) (between (feed_at feeds n) (was n) (now n)))) w) (sym (pieces-append e v (epoch_pieces held ends n) more))
+    (run-part parts feeds p n (bases n) (kept n) e (was n) (now n) more (folded g (of_epoch feeds e was now n)) (pieces_applied e v (epoch_pieces held ends n)) (runs n (omega arith)) (all n (omega arith)) before))

@@ -5,7 +5,8 @@ use Rattle.kin_held.specs.Chains.{ChainView}
 use Rattle.kin_table.specs.Vectors.{vector_at}
 use Rattle.kin_table.specs.Tables.{RowView, row_at, agreed_of, inc_of, missing_of, cuts_of, last_of}
 use Rattle.kin_graph.specs.State.{PartState}
-use Rattle.kin_blocks.specs.Versions.{VersionsView, IsKept, committed_at, snap_at, store_at}
+use Rattle.kin_graph.specs.Deltas.{DeltaLists}
+use Rattle.kin_blocks.specs.Versions.{VersionsView, IsKept, committed_at, snap_at, store_at, deltas_at, delta_at}
 use Rattle.kin_hub.specs.Cores.{CoreView, chain_of}
 
 -- the partitions' chains and the table, and the partitions' stores by epochs
@@ -65,3 +66,10 @@ snap_in h k = snap_at h.versions k
 
 abbrev pub store_in : HubView → ℕ → ℕ → PartState
 store_in h p k = store_at h.versions p k
+
+-- what an epoch changed in each partition, and in one
+abbrev pub deltas_in : HubView → ℕ → List DeltaLists
+deltas_in h k = deltas_at h.versions k
+
+abbrev pub delta_in : HubView → ℕ → ℕ → DeltaLists
+delta_in h p k = delta_at h.versions p k

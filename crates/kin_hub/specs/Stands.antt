@@ -1,15 +1,16 @@
 -- What a hub stands for, apart from any history: feeds, agreed lines, the bases of the incarnations, and vectors.
-use Rattle.std.specs.Prelude.{ℕ, ◌≡◌, ◌<◌, ◌≤◌, ◌+◌, true, List, length}
+use Rattle.std.specs.Prelude.{ℕ, ◌≡◌, ◌<◌, ◌≤◌, ◌+◌, ◌-◌, true, List, length}
 use Rattle.kin_ids.specs.declared.stamps.Stamp.{Stamp}
 use Rattle.kin_ids.specs.declared.ops.Record.{Record}
 use Rattle.kin_ids.specs.Order.{feed_at, snapshot}
 use Rattle.kin_ids.specs.Parts.{IsPart}
 use Rattle.kin_graph.specs.State.{view_of}
+use Rattle.kin_graph.specs.Tells.{Tells}
 use Rattle.kin_blocks.specs.Versions.{IsVersions}
 use Rattle.kin_table.specs.Vectors.{end_at, vector_at}
 use Rattle.kin_table.specs.Tables.{row_at, agreed_of, inc_of, cuts_of}
 use Rattle.kin_hub.specs.Cores.{CoreView, IsCore, chain_of}
-use Rattle.kin_hub.specs.Hubs.{HubView, chain_in, cuts_in, committed_in, first_in, store_in}
+use Rattle.kin_hub.specs.Hubs.{HubView, chain_in, cuts_in, committed_in, first_in, store_in, delta_in}
 use Rattle.kin_hub.specs.Lines.{IsHubLine, IsHubChain, IsHubRow, IsHubEnd}
 
 -- What a hub stands for, apart from any history: the number of partitions, and the feeds by their records; of each node the line of its
@@ -35,14 +36,15 @@ pub record CoreStands (story : Story) (c : CoreView) : Type 0 where
   pub ends : (k i : ℕ) → k < length c.table.vectors → i < length story.feeds → IsHubEnd (story.lines i) (agreed_of c.table i) (story.vectors k i) (end_at (vector_at c.table.vectors k) i)
 
 -- The stores stand for these feeds and vectors: no partition has committed more than is cut; its floors are where the last vector that it has committed
--- is; and its store at each epoch that it has committed, from the first kept one on, is its part of the graph of all records within that
--- vector.
+-- is; its store at each epoch that it has committed, from the first kept one on, is its part of the graph of all records within that
+-- vector; and its delta of the epoch tells exactly what differs from the vector before.
 pub record StoresStand (parts : ℕ) (feeds : List (List Record)) (vectors : ℕ → ℕ → ℕ) (h : HubView) : Type 0 where
   pub versions : IsVersions h.versions
   pub parts_are : length h.versions.committed ≡ parts
   pub within : (p : ℕ) → p < parts → committed_in h p ≤ cuts_in h
   pub floors : (p i : ℕ) → p < parts → i < length feeds → (chain_in h p i).floor ≡ vectors (committed_in h p) i
   pub stores : (p k : ℕ) → p < parts → first_in h ≤ k → k ≤ committed_in h p → IsPart parts p (snapshot feeds vectors k) (view_of (store_in h p k))
+  pub deltas : (p k : ℕ) → p < parts → first_in h ≤ k → k ≤ committed_in h p → Tells parts p (snapshot feeds vectors (k - 1)) (snapshot feeds vectors k) (delta_in h p k)
 
 -- the hub stands for a story
 pub record HubStands (story : Story) (h : HubView) : Type 0 where

@@ -1,51 +1,35 @@
-//! What a partition does at a commit: its store takes an epoch's pieces, and its chains let go of them.
+//! What a partition does at a commit: an epoch's pieces are picked from its chains, which let go of them then.
 
-ghost use Rattle.std.specs.Prelude.{◌≡◌, ◌<◌, ◌^◌, ℕ, All, OnOk, length};
-ghost use Rattle.kin_ids.specs.declared.ids.User.{User};
+ghost use Rattle.std.specs.Prelude.{◌≡◌, ◌<◌, ◌^◌, ℕ, IfOk, length};
 ghost use Rattle.kin_held.specs.Chains.{chain_at};
 ghost use Rattle.kin_held.specs.Takes.{IsPlace};
 ghost use Rattle.kin_table.specs.Vectors.{end_at};
-ghost use Rattle.kin_graph.specs.State.{view_of};
-ghost use Rattle.kin_hub.specs.Commits.{pieces_applied, nodes_applied, IsOfStore, MayTake, Forgets};
+ghost use Rattle.kin_blocks.specs.Blocks.{pieces_of};
+ghost use Rattle.kin_hub.specs.Commits.{epoch_pieces, Forgets};
 
-use kin_graph::PartGraph;
+use kin_blocks::Run;
 use kin_held::Held;
-use kin_ids::{End, Epoch, IngestId, Memory, Piece};
+use kin_ids::{End, IngestId, Memory};
+use std::alloc::Global;
 
-/// Applies an epoch's pieces, node by node: of each node those up to its end in the epoch's vector. It costs what the pieces cost.
-/// After `Memory` some of them are applied.
-pub(crate) fn apply_epoch(
-    store: &mut PartGraph,
-    epoch: Epoch,
-    held: &Held,
+/// An epoch's pieces, node by node: of each node those up to its end in the epoch's vector. It costs a search by halves in the chain of
+/// each node.
+pub(crate) fn epoch_runs<'a>(
+    alloc: Global,
+    held: &'a Held,
     ends: &[End],
-) -> Result<(), Memory>
+) -> Result<Vec<Run<'a>>, Memory>
     requires nodes { length ends.now ≡ length held.now }
     requires few { length ends.now < 2 ^ 16 }
-    requires may { MayTake epoch.0 held.now ends.now (length ends.now) store.old }
-    ensures ok { OnOk result (view_of store.new
-        ≡ nodes_applied epoch.0 held.now ends.now (view_of store.old) (length ends.now)) }
-    ensures same { (store.new.part ≡ store.old.part) × (store.new.parts ≡ store.old.parts) }
+    ensures { IfOk result (λ runs. pieces_of runs.items ≡ epoch_pieces held.now ends.now (length ends.now)) }
 {
+    let mut runs = Vec::with_capacity(alloc, ends.len())?;
     for i in 0..ends.len() {
         let node = IngestId(i as u16);
         let count = held.count_upto(node, ends[i].to);
-        apply_all(store, epoch, &held.chain(node)[..count])?;
+        runs.push(Run::of(&held.chain(node)[..count]))?;
     }
-    Ok(())
-}
-
-// Applies pieces of an epoch in turn.
-fn apply_all(store: &mut PartGraph, epoch: Epoch, pieces: &[Piece]) -> Result<(), Memory>
-    requires of_store { All (IsOfStore store.old) pieces.now }
-    requires said { (u : User) → (pieces_applied epoch.0 (view_of store.old) pieces.now).said u < 2 ^ 64 }
-    ensures ok { OnOk result (view_of store.new ≡ pieces_applied epoch.0 (view_of store.old) pieces.now) }
-    ensures same { (store.new.part ≡ store.old.part) × (store.new.parts ≡ store.old.parts) }
-{
-    for piece in pieces {
-        store.apply(epoch, piece)?;
-    }
-    Ok(())
+    Ok(runs)
 }
 
 /// Lets go of the pieces of each node up to its end in a vector. It takes no memory.

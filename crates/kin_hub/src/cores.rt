@@ -7,9 +7,9 @@ ghost use Rattle.kin_held.specs.Chains.{ChainView};
 ghost use Rattle.kin_hub.specs.Cores.{kept_inc};
 ghost use Rattle.kin_hub.specs.Cuts.{front_for};
 
-use crate::commits::{apply_epoch, forget_epoch};
+use crate::commits::{epoch_runs, forget_epoch};
 use crate::runs::{between, shared_end};
-use kin_graph::PartGraph;
+use kin_blocks::Run;
 use kin_held::{Held, Taken};
 use kin_ids::{Epoch, Inc, IngestId, Memory, PartId, Piece, Stamp, StampList};
 use kin_table::{Cut, CutRefused, End, IncarnationsSpent, Raised, Table};
@@ -40,14 +40,14 @@ impl Model for Core {
 
 impl Core {
     ghost use Rattle.kin_held.specs.Takes.{taken_of, IsPlace};
-    ghost use Rattle.kin_graph.specs.State.{view_of};
+    ghost use Rattle.kin_blocks.specs.Blocks.{pieces_of};
     ghost use Rattle.kin_table.specs.Tables.{agreed_of, inc_of, base_of, reach_of, raised_of, missing_of, cuts_of, last_of};
     ghost use Rattle.kin_table.specs.Vectors.{vector_at, end_at};
     ghost use Rattle.kin_table.specs.Lists.{list_at};
     ghost use Rattle.kin_table.specs.Cuts.{IsNextCut};
     ghost use Rattle.kin_hub.specs.Cuts.{HasRecords};
     ghost use Rattle.kin_hub.specs.Cores.{CoreTakes, IsCore, held_at, chain_of, least_reach, ready, stamps_between, since_cut, with_report, with_raise, with_seal, with_cut};
-    ghost use Rattle.kin_hub.specs.Commits.{MayTake, CoreForgets, nodes_applied};
+    ghost use Rattle.kin_hub.specs.Commits.{CoreForgets, epoch_pieces};
     ghost use Rattle.kin_hub.specs.Opens.{first_core};
 
     /// Nothing came yet.
@@ -194,20 +194,17 @@ impl Core {
         Ok(StampList::of(stamps(self.alloc, front(run, n))?))
     }
 
-    /// Applies the pieces of a cut epoch to a store of partition `p`. After `Memory` some of them are applied.
-    pub fn apply(&self, p: PartId, k: Epoch, store: &mut PartGraph) -> Result<(), Memory>
+    /// The pieces of a cut epoch that partition `p` has, node by node.
+    pub fn runs(&self, p: PartId, k: Epoch) -> Result<Vec<Run<'_>>, Memory>
         requires part { p.0 < length self.now.helds }
         requires some { 0 < k.0 }
         requires cut { k.0 ≤ cuts_of self.now.table }
-        requires may { MayTake k.0 (held_at self.now.helds p.0) (vector_at self.now.table.vectors k.0)
-            (length self.now.table.agreed) store.old }
-        ensures ok { OnOk result (view_of store.new ≡ nodes_applied k.0 (held_at self.now.helds p.0)
-            (vector_at self.now.table.vectors k.0) (view_of store.old) (length self.now.table.agreed)) }
-        ensures same { (store.new.part ≡ store.old.part) × (store.new.parts ≡ store.old.parts) }
+        ensures { IfOk result (λ runs. pieces_of runs.items ≡ epoch_pieces (held_at self.now.helds p.0)
+            (vector_at self.now.table.vectors k.0) (length self.now.table.agreed)) }
     {
         let cut = self.table.cut_of(k).unwrap();
         let held = &self.helds[usize::from(p.0)];
-        apply_epoch(store, k, held, cut.ends.as_slice())
+        epoch_runs(self.alloc, held, cut.ends.as_slice())
     }
 
     /// Lets go of the pieces of partition `p` up to the ends of a cut.

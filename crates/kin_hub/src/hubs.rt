@@ -5,7 +5,7 @@ ghost use Rattle.kin_ids.specs.declared.ops.Record.{Record};
 
 use crate::answers::CommitRefused;
 use crate::cores::Core;
-use kin_blocks::{Snap, Versions};
+use kin_blocks::{Delta, Snap, Versions};
 use kin_held::Taken;
 use kin_ids::{Epoch, Inc, IngestId, Memory, PartId, Piece, StampList};
 use kin_table::{Cut, CutRefused, End, IncarnationsSpent, Raised};
@@ -38,9 +38,9 @@ impl Hub {
     ghost use Rattle.kin_table.specs.Vectors.{vector_at};
     ghost use Rattle.kin_table.specs.Cuts.{IsNextCut};
     ghost use Rattle.kin_hub.specs.Cores.{CoreTakes, least_reach, past_in, ready_run, ready, since_cut, with_report, with_raise, with_seal, with_cut};
-    ghost use Rattle.kin_hub.specs.Hubs.{KeepsEpoch, parts_in, nodes_in, chain_in, agreed_in, inc_in, missing_in, cuts_in, last_in, committed_in, snap_in};
+    ghost use Rattle.kin_hub.specs.Hubs.{KeepsEpoch, parts_in, nodes_in, chain_in, agreed_in, inc_in, missing_in, cuts_in, last_in, committed_in, deltas_in, snap_in};
     ghost use Rattle.kin_blocks.specs.Versions.{released};
-    ghost use Rattle.kin_hub.specs.Commits.{MayCommit, AreSnapshot, Commits, KeepsSnaps, KeepsSnapsFrom};
+    ghost use Rattle.kin_hub.specs.Commits.{MayCommit, AreDeltas, AreSnapshot, Commits, KeepsSnaps, KeepsSnapsFrom};
     ghost use Rattle.kin_hub.specs.Opens.{first_hub, first_story};
     ghost use Rattle.kin_hub.specs.Stands.{HubStands};
     ghost use Rattle.kin_hub.specs.Goes.{Knows, HubPlaces, HubKeeps, HubRaises, HubSeals, HubCuts, AreSince};
@@ -163,7 +163,8 @@ impl Hub {
     }
 
     /// Commits partition `p`'s next epoch: its store takes the epoch's pieces in the agreed order, node by node, and its chains let go
-    /// of them. It costs a copy of the store, and what the pieces cost.
+    /// of them. It costs what the pieces cost, and O(n) in the nodes; the first commit of an epoch costs O(n) in the partitions besides.
+    /// After `Memory` the store is back where it was.
     pub fn commit(&mut self, p: PartId) -> Result<Epoch, CommitRefused>
         requires part { p.0 < parts_in self.old }
         requires said { MayCommit self.old p.0 }
@@ -179,9 +180,9 @@ impl Hub {
             return Err(CommitRefused::NothingCut);
         }
         let next = Epoch(last + 1);
-        let mut store = self.versions.store(p).copy()?;
-        self.core.apply(p, next, &mut store)?;
-        self.versions.put(p, store)?;
+        let runs = self.core.runs(p, next)?;
+        self.versions.commit(p, &runs)?;
+        drop(runs);
         self.core.forget(p, next);
         Ok(next)
     }
@@ -202,6 +203,16 @@ impl Hub {
         ensures whole { IfSome result (λ snap. AreSnapshot self.now k.0 snap.now) }
     {
         self.versions.snapshot(k)
+    }
+
+    /// What an epoch changed, partition by partition. None exactly where a partition hasn't committed the epoch, or it was let go. Of
+    /// epoch 0 they are empty. It costs O(n) in the partitions.
+    pub fn deltas(&self, k: Epoch) -> Option<&[Delta]>
+        ensures kept { IsSome result ↔ KeepsEpoch self.now k.0 }
+        ensures deltas { IfSome result (λ deltas. deltas.now ≡ deltas_in self.now k.0) }
+        ensures whole { IfSome result (λ deltas. AreDeltas self.now k.0 deltas.now) }
+    {
+        self.versions.deltas(k)
     }
 
     /// Lets go of every epoch below one that all partitions have committed. No other call lets go of one. It costs O(n) in what it

@@ -10,7 +10,7 @@ mod runs;
 
 pub use answers::CommitRefused;
 pub use hubs::Hub;
-pub use kin_blocks::Snap;
+pub use kin_blocks::{Delta, Snap};
 pub use kin_held::Taken;
 pub use kin_table::{Cut, CutRefused, End, IncarnationsSpent, Raised};
 

@@ -97,6 +97,12 @@ fn follows_at(hub: &Hub, epoch: Epoch) -> Option<bool> {
     Some(hub.snapshot(epoch)?.is_vertex(FOLLOWER))
 }
 
+// To how many partitions an epoch brought a follow by one of their users, where the epoch is kept.
+fn follows_new_at(hub: &Hub, epoch: Epoch) -> Option<usize> {
+    let with_follows = hub.deltas(epoch)?.iter().filter(|delta| !delta.now_out().is_empty());
+    Some(with_follows.count())
+}
+
 #[test]
 fn a_follow_is_committed(rt: HostRuntime) -> Result<(), Fail> {
     let mut hub = hub_with_cuts(&rt)?;
@@ -106,8 +112,11 @@ fn a_follow_is_committed(rt: HostRuntime) -> Result<(), Fail> {
     let (first, second) = (hub.committed(PartId(0)), hub.committed(PartId(1)));
     assert_eq!(rt; (first, second), (2, 2));
     assert_eq!(rt; follows_at(&hub, Epoch(0)), Some(false));
+    assert_eq!(rt; follows_new_at(&hub, Epoch(1)), Some(1));
+    assert_eq!(rt; follows_new_at(&hub, Epoch(2)), Some(0));
     hub.release_below(Epoch(1));
     assert_eq!(rt; follows_at(&hub, Epoch(0)), None);
+    assert_eq!(rt; follows_new_at(&hub, Epoch(0)), None);
     assert_eq!(rt; follows_at(&hub, Epoch(1)), Some(true));
     Ok(())
 }

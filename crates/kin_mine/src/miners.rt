@@ -11,7 +11,7 @@ ghost use Rattle.kin_blocks.specs.Snaps.{joined};
 ghost use Rattle.kin_mine.specs.Miners.{IsLeastUser, IsMinerOf, begun, turn_of};
 
 use crate::refusals::{BeginRefused, ResultRefused, TurnRefused};
-use kin_blocks::Snap;
+use kin_blocks::{Delta, Snap};
 use kin_graph::Steps;
 use kin_ids::{Epoch, Memory, User};
 use kin_rules::{EpochResult, Turn, scratch};
@@ -59,8 +59,14 @@ impl Miner {
         self.landmarks.as_slice()
     }
 
-    /// Begins the next epoch on its snapshot, which is let go where the call is refused. It costs an evaluation of all rules.
-    pub fn begin(&mut self, epoch: Epoch, snap: Snap) -> Result<(), BeginRefused>
+    /// Begins the next epoch on its snapshot, which is let go where the call is refused, with what the epoch changed in each partition.
+    /// It costs an evaluation of all rules, which reads the snapshot alone.
+    pub fn begin(
+        &mut self,
+        epoch: Epoch,
+        snap: Snap,
+        deltas: &[Delta],
+    ) -> Result<(), BeginRefused>
         requires small { IsSmall (joined snap) }
         requires room { begun self.old < u32.MAX }
 
@@ -76,6 +82,7 @@ impl Miner {
         ensures landmarks { self.new.landmarks ≡ self.old.landmarks }
         ensures stands { OnOk result ((g : Graph) → IsViewOf g (joined snap) → IsMinerOf g epoch.0 self.new) }
     {
+        let _ = deltas;
         let next = Epoch(self.result.epoch().0 + 1);
         if epoch != next {
             return Err(BeginRefused::NotNext(next));

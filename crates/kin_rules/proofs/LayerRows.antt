@@ -1,8 +1,9 @@
 -- Rows of layers by place.
 use Rattle.std.proofs.Common.{◌≡◌, ◌<◌, ◌≤◌, ◌+◌, ◌∙◌, ◌||◌, ℕ, zero, suc, Bool, true, false, List, [], ◌∷◌, ◌++◌, All, Option, Some, None, IfSome, length, get_or, map, filter, take, cond, ltb, add-one, arith, refl, sym, ap, subst}
-use Rattle.std.specs.List.{cons_option}
+use Rattle.std.specs.List.{cons_option, count_by}
 use Rattle.std.proofs.lemmas.Bool.{or_left, or_right}
-use Rattle.std.proofs.lemmas.List.{length-map, get_or-map, map_more, get_or_append_left, get_or_push, length_push, take_more, map_push}
+use Rattle.std.proofs.lemmas.List.{append_assoc, length-map, get_or-map, map_more, get_or_append_left, get_or_push, length_push, map_push}
+use Rattle.std.proofs.lemmas.List.Sums.{sum_by-cons}
 use Rattle.std.proofs.lemmas.Bool.Decides.{nat_tests}
 use Rattle.kin_ids.specs.declared.ids.User.{User}
 use Rattle.kin_ids.specs.declared.ops.Half.{Half}
@@ -149,18 +150,17 @@ shares-at share df d facts row shares (e ∷ es) below all =
 pub if-some : {T : Type 0} (P : T → Type 0) (o : Option T) (v : T) → o ≡ Some v → IfSome o P → P v
 if-some P o v e h = subst (λ (q : Option _). IfSome q P) e h
 
--- the present ends of some halves and one more
-pub present-more : (hs : List Half) (k : ℕ) (d : Half) → k < length hs → present_ends (take (k + 1) hs) ≡ present_ends (take k hs) ++ present_ends (get_or hs k d ∷ [])
-present-more hs k d lt = ap (λ (xs : List Half). present_ends xs) (take_more hs k d lt) ∙ joined (take k hs) (get_or hs k d)
+-- the present ends of one half and of those after it
+present-first : (h : Half) (hs : List Half) → present_ends (h ∷ hs) ≡ present_ends (h ∷ []) ++ present_ends hs
+present-first h hs = here h.present
   where
-    joined : (xs : List Half) (h : Half) → present_ends (xs ++ h ∷ []) ≡ present_ends xs ++ present_ends (h ∷ [])
-    joined [] h = refl
-    joined (x ∷ xs) h = here x.present (joined xs h)
-      where
-        here : (b : Bool) → present_ends (xs ++ h ∷ []) ≡ present_ends xs ++ present_ends (h ∷ [])
-            → map (λ (q : Half). q.other) (cond b (x ∷ filter (λ q. q.present) (xs ++ h ∷ [])) (filter (λ q. q.present) (xs ++ h ∷ []))) ≡ map (λ (q : Half). q.other) (cond b (x ∷ filter (λ q. q.present) xs) (filter (λ q. q.present) xs)) ++ present_ends (h ∷ [])
-        here true old = ap (λ (us : List User). x.other ∷ us) old
-        here false old = old
+    here : (b : Bool) → map (λ (q : Half). q.other) (cond b (h ∷ filter (λ q. q.present) hs) (filter (λ q. q.present) hs)) ≡ map (λ (q : Half). q.other) (cond b (h ∷ []) []) ++ present_ends hs
+    here true = refl
+    here false = refl
+
+-- one present half more
+pub present-one : (h : Half) (hs : List Half) → h.present ≡ true → count_by (λ (q : Half). q.present) (h ∷ hs) ≡ 1 + count_by (λ (q : Half). q.present) hs
+present-one h hs e = sum_by-cons (λ (q : Half). cond q.present 1 0) h hs ∙ ap (λ (b : Bool). cond b 1 0 + count_by (λ (q : Half). q.present) hs) e
 
 places-joined : (us xs ys : List User) → places_of us (xs ++ ys) ≡ places_of us xs ++ places_of us ys
 places-joined us [] ys = refl
@@ -170,11 +170,11 @@ places-joined us (x ∷ xs) ys = here (found us x) (places-joined us xs ys)
     here None old = old
     here (Some i) old = ap (λ (is : List ℕ). i ∷ is) old
 
--- one half more
-pub ends-next : (us : List User) (walked hs : List Half) (k : ℕ) (h d : Half) (was is : List ℕ) → walked ≡ hs → k < length walked → h ≡ get_or walked k d → was ≡ places_of us (present_ends (take k hs)) → is ≡ was ++ places_of us (present_ends (h ∷ []))
-    → is ≡ places_of us (present_ends (take (k + 1) hs))
-ends-next us walked hs k h d was is same lt at old push =
-    let below : k < length hs = subst (λ (xs : List Half). k < length xs) same lt in
-    let one : h ≡ get_or hs k d = at ∙ ap (λ (xs : List Half). get_or xs k d) same in
-    push ∙ ap (λ (ns : List ℕ). ns ++ places_of us (present_ends (h ∷ []))) old ∙ ap (λ (x : Half). places_of us (present_ends (take k hs)) ++ places_of us (present_ends (x ∷ []))) one
-    ∙ sym (places-joined us (present_ends (take k hs)) (present_ends (get_or hs k d ∷ []))) ∙ ap (λ (xs : List User). places_of us xs) (sym (present-more hs k d below))
+-- one half more, before those that are left
+pub ends-next : (us : List User) (h : Half) (hs left : List Half) (was is all : List ℕ) → left ≡ h ∷ hs → was ++ places_of us (present_ends left) ≡ all → is ≡ was ++ places_of us (present_ends (h ∷ []))
+    → is ++ places_of us (present_ends hs) ≡ all
+ends-next us h hs left was is all here old push =
+    let one = places_of us (present_ends (h ∷ [])) in
+    let others = places_of us (present_ends hs) in
+    let both : places_of us (present_ends (h ∷ hs)) ≡ one ++ others = ap (λ (xs : List User). places_of us xs) (present-first h hs) ∙ places-joined us (present_ends (h ∷ [])) (present_ends hs) in
+    ap (λ (ns : List ℕ). ns ++ others) push ∙ (append_assoc was one others ∙ (ap (λ (ns : List ℕ). was ++ ns) (sym both) ∙ (ap (λ (xs : List Half). was ++ places_of us (present_ends xs)) (sym here) ∙ old)))

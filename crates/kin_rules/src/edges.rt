@@ -5,8 +5,8 @@ ghost use Rattle.std.specs.Prelude.{IfOk, OnErr, OnOk};
 ghost use Rattle.kin_rules.specs.Edges.{followed, places_of, rows_of};
 
 use crate::Index;
-use kin_graph::{Steps, View};
-use kin_ids::{Half, Memory, User};
+use kin_graph::{Halves, Steps, Users, View};
+use kin_ids::{Memory, User};
 use std::alloc::Global;
 use std::marker::Model;
 use std::sync::ledger::Ledger;
@@ -32,10 +32,10 @@ impl Model for Edges {
 }
 
 // The places of the users at the other ends, of those that have one, after what stands there.
-fn put_followed(row: &mut Vec<usize>, index: &Index, halves: &[Half]) -> Result<(), Memory>
+fn put_followed(row: &mut Vec<usize>, index: &Index, halves: &Halves) -> Result<(), Memory>
     ensures { OnOk result (row.new.items ≡ row.old.items ++ places_of index.now (map (λ h. h.other) halves.now)) }
 {
-    for half in halves {
+    for half in halves.iter() {
         if let Some(place) = index.find(half.other) {
             row.push(place)?;
         }
@@ -44,10 +44,10 @@ fn put_followed(row: &mut Vec<usize>, index: &Index, halves: &[Half]) -> Result<
 }
 
 // The places of users, of those that have one, after what stands there.
-fn put_places(row: &mut Vec<usize>, index: &Index, users: &[User]) -> Result<(), Memory>
+fn put_places(row: &mut Vec<usize>, index: &Index, users: &Users) -> Result<(), Memory>
     ensures { OnOk result (row.new.items ≡ row.old.items ++ places_of index.now users.now) }
 {
-    for user in users {
+    for user in users.iter() {
         if let Some(place) = index.find(*user) {
             row.push(place)?;
         }

@@ -1,16 +1,31 @@
 //! What rules of layers read of a view, once: what is known of each user, and the places of its neighbours.
 
-ghost use Rattle.std.specs.Prelude.{◌≡◌, ◌++◌, ◌∷◌, [], IfOk, OnOk, map};
+ghost use Rattle.std.specs.Prelude.{◌≡◌, ◌++◌, ◌∷◌, [], IfOk, OnOk, count_by, map};
 ghost use Rattle.kin_rules.specs.Edges.{places_of, rows_of};
 ghost use Rattle.kin_rules.specs.LayerTables.{facts_seen, halves_on, neighbours_seen, present_ends};
 
 use crate::Index;
 use crate::edges::Edges;
 use crate::pull_rules::{Facts, Side};
-use kin_graph::{Steps, Uses, View};
+use kin_graph::{Halves, Steps, Uses, View};
 use kin_ids::{Half, Memory, User};
 use std::alloc::Global;
 use std::sync::ledger::Ledger;
+
+/// How many of these halves are present. O(n) for n halves.
+pub(crate) fn count_present(halves: &Halves) -> u64
+    ensures { result ≡ count_by (λ h. h.present) halves.now }
+{
+    // For the proof: so many halves can be counted.
+    let _all = halves.len();
+    let mut count = 0;
+    for half in halves.iter() {
+        if half.present {
+            count += 1;
+        }
+    }
+    count
+}
 
 fn facts_of<V: View, L: Ledger>(
     alloc: Global,
@@ -20,12 +35,8 @@ fn facts_of<V: View, L: Ledger>(
 ) -> Result<Facts, Memory>
     ensures { IfOk result (λ facts. facts ≡ facts_seen (V.seen view.now) user) }
 {
-    let following = view
-        .out(user, steps)
-        .iter()
-        .filter(|half| half.present)
-        .count() as u64;
-    let uses = Vec::from_slice(alloc, view.uses(user))?;
+    let following = count_present(view.out(user, steps));
+    let uses = view.uses(user).iter().copied().collect(alloc)?;
     Ok(Facts {
         user,
         following,
@@ -54,7 +65,7 @@ fn halves_of<'a, V: View, L: Ledger>(
     side: Side,
     user: User,
     steps: &mut Steps<L>,
-) -> &'a [Half]
+) -> &'a Halves
     ensures { result.now ≡ halves_on side (V.seen view.now) user }
 {
     match side {
@@ -77,11 +88,11 @@ fn put_end(row: &mut Vec<usize>, index: &Index, half: Half) -> Result<(), Memory
 }
 
 // The places of the present ends, of those that have one.
-fn put_ends(row: &mut Vec<usize>, index: &Index, halves: &[Half]) -> Result<(), Memory>
+fn put_ends(row: &mut Vec<usize>, index: &Index, halves: &Halves) -> Result<(), Memory>
     requires { row.old.items ≡ [] }
     ensures { OnOk result (row.new.items ≡ places_of index.now (present_ends halves.now)) }
 {
-    for half in halves {
+    for half in halves.iter() {
         put_end(row, index, *half)?;
     }
     Ok(())

@@ -21,7 +21,7 @@ use crate::columns::Column;
 use crate::edges::Edges;
 use crate::evaluations::{exposures, ranks};
 use crate::exposure_lists::exposure_lists;
-use crate::neighbours::all_facts;
+use crate::neighbours::{all_facts, count_present};
 use crate::numbers::KCount;
 use crate::pull_rules::Facts;
 use crate::push_rules::{Distance, DistanceFrom};
@@ -45,8 +45,7 @@ fn in_counts<V: View, L: Ledger>(
 {
     let mut counts = Vec::with_capacity(alloc, users.len())?;
     for user in users {
-        let present = view.inn(*user, steps).iter().filter(|half| half.present);
-        counts.push(present.count() as u64)?;
+        counts.push(count_present(view.inn(*user, steps)))?;
     }
     Ok(counts)
 }

@@ -4,6 +4,7 @@ ghost use Rattle.std.specs.Prelude.{◌<◌, ◌≤◌, IsTrue};
 ghost use Rattle.kin_history.specs.Setting.{IsEvent};
 ghost use Rattle.kin_world.specs.Worlds.{HasRoom, setting_of};
 
+use crate::deltas::print_deltas;
 use crate::faults::Fault;
 use crate::lines::{Asked, read_line};
 use crate::opens::open;
@@ -69,6 +70,17 @@ fn print_snapshot<R: Print + Alloc<A = Global>>(rt: &R, hub: &Hub, k: Epoch) -> 
     }
 }
 
+// Prints what an epoch changed, by partitions.
+fn print_changes<R: Print + Alloc<A = Global>>(rt: &R, hub: &Hub, k: Epoch) -> Result<(), Fault> {
+    match hub.deltas(k) {
+        Some(deltas) => {
+            println!(rt; "deltas {}", k.0)?;
+            print_deltas(rt, deltas)
+        }
+        None => Ok(println!(rt; "none")?),
+    }
+}
+
 /// Prints what the world answers to a line, or `bad line` for a line outside the grammar or before the first world. A line that begins
 /// a case gives a new world.
 pub(crate) fn answer<R: Print + Alloc<A = Global>>(
@@ -92,6 +104,7 @@ pub(crate) fn answer<R: Print + Alloc<A = Global>>(
         (Some(Asked::Vectors), Some(world)) => print_vectors(rt, world.hub()),
         (Some(Asked::Result), Some(world)) => print_result(rt, world.miner()),
         (Some(Asked::Store(k)), Some(world)) => print_snapshot(rt, world.hub(), k),
+        (Some(Asked::Deltas(k)), Some(world)) => print_changes(rt, world.hub(), k),
         _ => Ok(println!(rt; "bad line")?),
     }
 }

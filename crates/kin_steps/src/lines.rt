@@ -19,6 +19,8 @@ pub(crate) enum Asked<'a> {
     Vectors,
     /// The snapshot of an epoch.
     Store(Epoch),
+    /// What an epoch changed, by partitions.
+    Deltas(Epoch),
     /// The values of the epoch begun last.
     Result,
 }
@@ -103,6 +105,7 @@ pub(crate) fn read_line<'a>(words: &[&'a str]) -> Option<Asked<'a>> {
         ["vectors"] => Some(Asked::Vectors),
         ["result"] => Some(Asked::Result),
         ["store", k] => Some(Asked::Store(epoch(k)?)),
+        ["deltas", k] => Some(Asked::Deltas(epoch(k)?)),
         _ => Some(Asked::Event(event_of(words)?)),
     }
 }

@@ -3,6 +3,7 @@
 #![tactic(auto)]
 
 mod answers;
+mod deltas;
 mod faults;
 mod lines;
 mod opens;

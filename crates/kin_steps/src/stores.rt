@@ -3,7 +3,7 @@
 ghost use Rattle.std.specs.Prelude.{◌≡◌, ◌<◌};
 
 use crate::faults::Fault;
-use kin_graph::{Half, Steps, Use, View};
+use kin_graph::{Steps, Use, View};
 use kin_hub::Snap;
 use kin_ids::{Place, Tag, User};
 use std::alloc::Global;
@@ -12,14 +12,14 @@ use std::marker::Brand;
 use std::sync::ledger::{Blank, Ledger};
 
 #[derive(Clone, Copy, Debug)]
-struct At(Place);
+pub(crate) struct At(pub(crate) Place);
 
 #[derive(Clone, Copy, Debug)]
 pub(crate) struct TagText(pub(crate) Tag);
 
 // Lists, whose items each stand after a space.
-#[derive(Clone, Copy, Debug)]
-struct Halves<'a>(&'a [Half]);
+#[derive(Clone, Copy)]
+struct Halves<'a>(&'a kin_graph::Halves);
 
 #[derive(Clone, Copy, Debug)]
 struct Users<'a>(&'a [User]);
@@ -45,7 +45,7 @@ impl fmt::Display for TagText {
 
 impl fmt::Display for Halves<'_> {
     fn fmt<W: fmt::Write>(&self, f: &mut fmt::Formatter<W>) -> fmt::Result {
-        for half in self.0 {
+        for half in self.0.iter() {
             let sign = if half.present { '+' } else { '-' };
             write!(f, " {}@{}{sign}", half.other.0, At(half.added))?;
         }
@@ -71,8 +71,8 @@ impl fmt::Display for Uses<'_> {
     }
 }
 
-fn ascending(alloc: Global, users: &[User]) -> Result<Vec<User>, Fault> {
-    let mut users = Vec::from_slice(alloc, users)?;
+fn ascending(alloc: Global, users: &kin_graph::Users) -> Result<Vec<User>, Fault> {
+    let mut users: Vec<User> = users.iter().copied().collect(alloc)?;
     users.sort_unstable();
     Ok(users)
 }
@@ -87,7 +87,7 @@ fn print_user<R: Print + Alloc<A = Global>, L: Ledger>(
     let inn = Halves(snap.inn(user, steps));
     let mentions = ascending(rt.alloc(), snap.mentions(user, steps))?;
     let mentioners = ascending(rt.alloc(), snap.mentioners(user, steps))?;
-    let mut uses = Vec::from_slice(rt.alloc(), snap.uses(user))?;
+    let mut uses: Vec<Use> = snap.uses(user).iter().copied().collect(rt.alloc())?;
     uses.sort_by_key(|first| first.tag)?;
     print!(rt; "user {} out{out} in{inn}", user.0)?;
     print!(rt;

@@ -106,9 +106,9 @@ module _ (set : Setting) (w : WorldView) (h : List Event) (s : Stands set w h) (
     };
     epochs = record {
       vectors = ap (λ (v : CoreView). length v.table.vectors) c.core.2 ∙ s.epochs.vectors;
-      committed_are = λ q q_lt. ap (λ (xs : List ℕ). get_or xs q 0) c.versions.committed
+      committed_are = λ q q_lt. ap (λ (xs : List ℕ). get_or xs q 0) c.versions.puts.committed
           ∙ (get_or-set w.hub.versions.committed p.0 q (committed_in w.hub p.0 + 1) 0 (let are = s.epochs.hub.stores.parts_are in omega arith) ∙ committed_part q q_lt (eqb p.0 q) refl);
-      kept = c.versions.first ∙ s.epochs.kept;
+      kept = c.versions.puts.first ∙ s.epochs.kept;
       hub = keeps _ s.epochs.hub;
     };
     mining = record { mined_is = s.mining.mined_is; open_is = s.mining.open_is; miner = s.mining.miner; quiet = s.mining.quiet };

@@ -302,7 +302,8 @@ impl Core {
         }
         let epoch = self.next_epoch();
         let snap = self.hub.snapshot(epoch).unwrap().share()?;
-        match self.miner.begin(epoch, snap) {
+        let deltas = self.hub.deltas(epoch).unwrap();
+        match self.miner.begin(epoch, snap, deltas) {
             Ok(()) => {
                 self.is_open = true;
                 Ok(None)

@@ -1,23 +1,23 @@
-use Rattle.std.proofs.Common.{◌≡◌, ◌+◌, ◌<◌, ◌≤◌, ◌^◌, ℕ, List, ◌∷◌, ◌++◌, [], drop, length, refl, sym, ap, ◌∙◌, subst, arith, rules}
-use Rattle.std.proofs.lemmas.List.{length_push}
-use Rattle.kin_ids.specs.declared.ids.User.{User}
-use Rattle.kin_graph.specs.declared.changes.Change.{Change}
-use Rattle.kin_graph.specs.Changes.{Kept, kept, done, done_all, undone, undone_all}
-use Rattle.kin_graph.proofs.Batches.{undone_all-none, undone_all-more, done_all-more, done_all-grows}
+use Rattle.std.proofs.Common.{◌≡◌, ◌+◌, ◌<◌, ◌^◌, drop, refl, sym, ap, ◌∙◌, subst, arith}
+use Rattle.kin_ids.specs.declared.stamps.Place.{Place}
+use Rattle.kin_graph.specs.State.{view_of}
+use Rattle.kin_graph.specs.Changes.{Kept, kept, done, done_all, Precedes}
+use Rattle.kin_store.proofs.Preceding.{precedes-refl, precedes-trans, precedes-done}
+use Rattle.kin_graph.proofs.Batches.{done_all-more, done_all-grows}
+use Rattle.kin_graph.proofs.Touching.{leaves-nothing, leaves-step}
 use Rattle.kin_graph.proofs.part_graphs.PartGraph.apply_all.Goals as goal
 
 pub loop-numbered-init : goal.loop-numbered-init
 loop-numbered-init c = record {
   rest = refl;
-  back = rw c.requires.empty (undone_all-none c.args.ops.now (kept c.args.self.now));
-  noted = ap (λ (cs : List Change). length cs) c.requires.empty;
-  room = c.requires.room;
   part = refl;
   parts = refl;
+  stays = precedes-refl (kept c.args.self.now);
+  others = leaves-nothing c.args.ops.now (view_of c.args.self.now);
 }
 
-pub apply_op-requires-clause-said : goal.apply_op-requires-clause-said
-apply_op-requires-clause-said c =
+pub write-requires-clause-said : goal.write-requires-clause-said
+write-requires-clause-said c =
     let e = c.args.epoch.0 in
     let i = c.args.ingest.0 in
     let k = kept c.loop-numbered.self in
@@ -34,17 +34,16 @@ pub loop-numbered-preserved : goal.loop-numbered-preserved
 loop-numbered-preserved c =
     let e = c.args.epoch.0 in
     let i = c.args.ingest.0 in
-    let k = kept c.loop-numbered.self in
+    let s = c.loop-numbered.self in
     let x = c.numbered-item.result in
     let n = c.loop-numbered.numbered-index in
+    let at : Place = record { epoch = c.args.epoch; ingest = c.args.ingest; number = x.number } in
     let inv = c.loop-numbered.invariant in
-    let step = c.in_ok-change.ensures in
+    let step = c.in_ok-write.ensures in
     record {
-      rest = ap (λ (m : Kept). done_all e i m (drop (n + 1) c.args.ops.now)) step.ok ∙ (sym (done_all-more e i k c.args.ops.now n x c.loop-numbered-test.true c.numbered-item.is) ∙ inv.rest);
-      back = ap (λ (cs : List Change). undone_all c.args.ops.now cs (kept c.apply_op.new.self)) c.push_reserved.ensures.items
-          ∙ (undone_all-more c.args.ops.now c.loop-numbered.changes.items c.in_ok-change.change x k (kept c.apply_op.new.self) n inv.noted c.loop-numbered-test.true c.numbered-item.is step.back ∙ inv.back);
-      noted = omega (arith, ap (λ (cs : List Change). length cs) c.push_reserved.ensures.items, length_push c.loop-numbered.changes.items c.in_ok-change.change, inv.noted);
-      room = omega (arith, inv.room, c.push_reserved.ensures.capacity);
+      rest = ap (λ (m : Kept). done_all e i m (drop (n + 1) c.args.ops.now)) step.ok ∙ (sym (done_all-more e i (kept s) c.args.ops.now n x c.loop-numbered-test.true c.numbered-item.is) ∙ inv.rest);
       part = step.same.0 ∙ inv.part;
       parts = step.same.1 ∙ inv.parts;
+      stays = precedes-trans (kept c.args.self.now) (kept s) (kept c.write.new.self) inv.stays (subst (λ (m : Kept). Precedes (kept s) m) (sym step.ok) (precedes-done at (kept s) x.op));
+      others = leaves-step c.args.ops.now n x c.loop-numbered-test.true c.numbered-item.is c.args.self.now s c.write.new.self at inv.others step.ok;
     }
