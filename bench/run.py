@@ -7,9 +7,12 @@
                                       out
 
 A line has a job, its seconds, microseconds for each item, and its peak memory, which is no less than Python's own,
-about 15 MiB. A line of a difference is what a job takes beyond another one: `worlds N steps` is `forward` beyond
-`open`, which reads the feeds and opens the world, so N events of a world; `commits N stamps` is `cuts` beyond `open`,
-the same records stamped, delivered, agreed and cut; and `commits N commits` is `forward` beyond `cuts`, the commits.
+about 15 MiB. The items of `epochs` are records, or with `ones`, `tens` and `idle` epochs; `epochs N ones` commits
+200,000 records first, as `epochs 1 ones` does. With `-release` each epoch is let go after the next; what is kept at
+the end of `epochs` isn't freed. A line of a difference is what a job takes beyond another one: `worlds N steps` is
+`forward` beyond `open`, which reads the feeds and opens the world, so N events of a world; `commits N stamps` is
+`cuts` beyond `open`, the same records stamped, delivered, agreed and cut; and `commits N commits` is `forward` beyond
+`cuts`, the commits.
 """
 import argparse
 import os
@@ -31,6 +34,10 @@ JOBS = [
     *(('stores', count, how) for count in (20000, 200000) for how in ('celebrity', 'spread')),
     *(('worlds', count, how) for count in (10000, 1000000) for how in ('open', 'forward')),
     *(('commits', count, how) for count in (20000, 200000) for how in ('open', 'cuts', 'forward')),
+    *(('epochs', 200000, how) for how in ('even', 'even-release', 'rank')),
+    *(('epochs', 500000, how) for how in ('long', 'long-release')),
+    *(('epochs', count, how) for count, how in ((1, 'ones'), (20000, 'ones'), (20000, 'tens'))),
+    *(('epochs', 1000000, how) for how in ('idle', 'idle-release')),
 ]
 DIFFERENCES = {('worlds', 'forward'): ('steps', 'open'), ('commits', 'cuts'): ('stamps', 'open'),
                ('commits', 'forward'): ('commits', 'cuts')}
@@ -64,7 +71,7 @@ def least_cost(words, runs):
 def show(what, how, count, took):
     """A line of the table."""
     memory = f'{took.mebibytes:7.0f} MiB' if took.mebibytes else ''
-    print(f'{what:8} {how:10} {count:8} {took.seconds:8.3f} {took.seconds / count * 1e6:8.2f} {memory}', flush=True)
+    print(f'{what:8} {how:12} {count:8} {took.seconds:8.3f} {took.seconds / count * 1e6:8.2f} {memory}', flush=True)
 
 
 def parts(program):
@@ -96,7 +103,7 @@ def main():
     parser.add_argument('program', nargs='?')
     parser.add_argument('--command', action='store_true')
     asked = parser.parse_args()
-    print(f'{"job":8} {"how":10} {"items":>8} {"seconds":>8} {"us/item":>8} {"peak":>11}')
+    print(f'{"job":8} {"how":12} {"items":>8} {"seconds":>8} {"us/item":>8} {"peak":>11}')
     if asked.command:
         commands(os.path.abspath(asked.program or os.path.join(TOP, 'kineo')))
     else:

@@ -1,10 +1,14 @@
 //! Runs one of the benchmarks: `chains N forward`, `chains N reverse`, `stores N celebrity`, `stores N spread`,
-//! `worlds N forward`, or `worlds N open`, which does all of that but the events; `commits N forward`, `commits N often` with eight times
-//! as many epochs, `commits N cuts`, which does all of `forward` but the commits, or `commits N open`, which does all but the events.
+//! `worlds N forward`, or `worlds N open`, which does all of that but the events; `commits N forward`,
+//! `commits N often` with eight times as many epochs, `commits N cuts`, which does all of `forward` but the commits, or
+//! `commits N open`, which does all but the events; `epochs N even`, `rank`, `long`, `ones`, `tens` or `idle`, the
+//! versions alone, and with `-release` after `even`, `long` or `idle` each epoch is let go after the next.
 #![tactic(auto)]
 
 mod chains;
 mod commits;
+mod draws;
+mod epochs;
 mod shapes;
 mod stores;
 mod worlds;
@@ -34,6 +38,7 @@ fn run(alloc: Global, words: &[String]) -> Result<bool, Memory> {
         ("commits", "cuts") => commits::cuts(alloc, n)?,
         ("commits", "forward") => commits::forward(alloc, n)?,
         ("commits", "often") => commits::often(alloc, n)?,
+        ("epochs", how) => return epochs::run(alloc, n as u32, how),
         _ => return Ok(false),
     }
     Ok(true)
