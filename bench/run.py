@@ -7,12 +7,12 @@
                                       out
 
 A line has a job, its seconds, microseconds for each item, and its peak memory, which is no less than Python's own,
-about 15 MiB. The items of `epochs` are records, or with `ones`, `tens` and `idle` epochs; `epochs N ones` commits
-200,000 records first, as `epochs 1 ones` does. With `-release` each epoch is let go after the next; what is kept at
-the end of `epochs` isn't freed. A line of a difference is what a job takes beyond another one: `worlds N steps` is
-`forward` beyond `open`, which reads the feeds and opens the world, so N events of a world; `commits N stamps` is
-`cuts` beyond `open`, the same records stamped, delivered, agreed and cut; and `commits N commits` is `forward` beyond
-`cuts`, the commits.
+about 15 MiB. The items of `epochs` are records, or with `ones`, `tens` and `idle` epochs. With `-release` each epoch is
+let go after the next; what is kept at the end of `epochs` isn't freed. A line of a difference is what a job takes
+beyond another one: `worlds N steps` is `forward` beyond `open`, which reads the feeds and opens the world, so N events
+of a world; `commits N stamps` is `cuts` beyond `open`, the same records stamped, delivered, agreed and cut;
+`commits N commits` is `forward` beyond `cuts`, the commits; and `epochs N singles` is `ones` beyond `before`, the same
+200,000 records, so N epochs of one record.
 """
 import argparse
 import os
@@ -36,11 +36,11 @@ JOBS = [
     *(('commits', count, how) for count in (20000, 200000) for how in ('open', 'cuts', 'forward')),
     *(('epochs', 200000, how) for how in ('even', 'even-release', 'rank')),
     *(('epochs', 500000, how) for how in ('long', 'long-release')),
-    *(('epochs', count, how) for count, how in ((1, 'ones'), (20000, 'ones'), (20000, 'tens'))),
+    *(('epochs', 20000, how) for how in ('before', 'ones', 'tens')),
     *(('epochs', 1000000, how) for how in ('idle', 'idle-release')),
 ]
 DIFFERENCES = {('worlds', 'forward'): ('steps', 'open'), ('commits', 'cuts'): ('stamps', 'open'),
-               ('commits', 'forward'): ('commits', 'cuts')}
+               ('commits', 'forward'): ('commits', 'cuts'), ('epochs', 'ones'): ('singles', 'before')}
 SHORT = 20000
 LINES = 1048576
 REPLAY = ['replay', '--script', 'schedule', '--feeds']

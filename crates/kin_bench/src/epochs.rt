@@ -26,7 +26,7 @@ const EPOCHS: u64 = 84;
 const BATCH: usize = 16;
 
 // The records that come before short epochs.
-const BEFORE: u64 = 200_000;
+const BEFORE: u32 = 200_000;
 
 fn out_half(edge: Edge) -> Op
     ensures half { is_half result ≡ true }
@@ -231,7 +231,14 @@ fn long(alloc: Global, n: u32, releases: bool) -> Result<(), Memory> {
 fn ones(alloc: Global, n: u32) -> Result<(), Memory> {
     let mut versions = first(alloc, PARTS)?;
     let mut draws = Draws::new(100_000, false);
-    spread(alloc, &mut versions, &mut draws, EPOCHS, BEFORE, false)?;
+    spread(
+        alloc,
+        &mut versions,
+        &mut draws,
+        EPOCHS,
+        u64::from(BEFORE),
+        false,
+    )?;
     spread(
         alloc,
         &mut versions,
@@ -274,7 +281,8 @@ fn idle(alloc: Global, n: u32, releases: bool) -> Result<(), Memory> {
 }
 
 /// Whether a benchmark has this name, which then ran: `even`, `rank` and `long` on as many records, `ones`, `tens` and
-/// `idle` on as many epochs. With `-release` after a name each epoch is let go after the next.
+/// `idle` on as many epochs, `before` on what comes before `ones`. With `-release` after a name each epoch is let go
+/// after the next.
 pub fn run(alloc: Global, n: u32, how: &str) -> Result<bool, Memory> {
     match how {
         "even" => even(alloc, n, false)?,
@@ -282,6 +290,7 @@ pub fn run(alloc: Global, n: u32, how: &str) -> Result<bool, Memory> {
         "rank" => rank(alloc, n)?,
         "long" => long(alloc, n, false)?,
         "long-release" => long(alloc, n, true)?,
+        "before" => even(alloc, BEFORE, false)?,
         "ones" => ones(alloc, n)?,
         "tens" => tens(alloc, n)?,
         "idle" => idle(alloc, n, false)?,

@@ -2,7 +2,8 @@
 //! `worlds N forward`, or `worlds N open`, which does all of that but the events; `commits N forward`,
 //! `commits N often` with eight times as many epochs, `commits N cuts`, which does all of `forward` but the commits, or
 //! `commits N open`, which does all but the events; `epochs N even`, `rank`, `long`, `ones`, `tens` or `idle`, the
-//! versions alone, and with `-release` after `even`, `long` or `idle` each epoch is let go after the next.
+//! versions alone, and with `-release` after `even`, `long` or `idle` each epoch is let go after the next;
+//! `epochs N before`, which does all of `ones` but its epochs.
 #![tactic(auto)]
 
 mod chains;
