@@ -25,15 +25,18 @@ goes-more a b c x y = record { part = y.part ∙ x.part; parts = y.parts ∙ x.p
 
 -- a store that was frozen just now, whatever is noted
 pub writer-fresh : (s : PartState) (x : TouchedLists) → IsWriter (fresh s) x
-writer-fresh s x = record { goes = goes-none s; only = record {
-  out = λ p e. refl;
-  inn = λ p e. refl;
-  mentions = λ p e. refl;
-  mentioners = λ p e. refl;
-  said = λ u e. refl;
-  uses = λ p e. refl;
-  tag_users = λ p e. refl;
-}  }
+writer-fresh s x = record {
+  goes = goes-none s;
+  only = record {
+    out = λ p e. refl;
+    inn = λ p e. refl;
+    mentions = λ p e. refl;
+    mentioners = λ p e. refl;
+    said = λ u e. refl;
+    uses = λ p e. refl;
+    tag_users = λ p e. refl;
+  };
+}
 
 -- more may be noted than was touched
 pub writer-noted : (v : BlocksView) (old new : TouchedLists) → IsWriter v old → KeepsNotes old new → IsWriter v new
@@ -94,8 +97,8 @@ module _ (e : ℕ) (s t : PartState) (runs : List (List Piece)) (k : ℕ) (xs : 
   parted =
       ap pieces_of (sym (take-append-drop (k + 1) runs)) ∙ (pieces_of-append (take (k + 1) runs) (drop (k + 1) runs)
       ∙ ap (λ (ys : List Piece). ys ++ pieces_of (drop (k + 1) runs)) front) where
-    front : pieces_of (take (k + 1) runs) ≡ pieces_of (take k runs) ++ xs
-    front = ap pieces_of (take_more runs k xs lt) ∙ (pieces_of-push (take k runs) (get_or runs k xs) ∙ ap (λ (ys : List Piece). pieces_of (take k runs) ++ ys) (sym is))
+        front : pieces_of (take (k + 1) runs) ≡ pieces_of (take k runs) ++ xs
+        front = ap pieces_of (take_more runs k xs lt) ∙ (pieces_of-push (take k runs) (get_or runs k xs) ∙ ap (λ (ys : List Piece). pieces_of (take k runs) ++ ys) (sym is))
 
   -- after the first runs the store may take the next one
   pub next-run : MayTake e s (pieces_of runs) → GoesOn s t → view_of t ≡ pieces_applied e (view_of s) (pieces_of (take k runs)) → MayTake e t xs

@@ -218,13 +218,16 @@ module _ (v : VersionsView) (ok : IsVersions v) (p : ℕ) (lt : p < length v.com
       s.part ≡ was.part → s.parts ≡ was.parts → view_of s ≡ pieces_applied (n + 1) (view_of was) pieces → IsDelta (view_of was) (view_of s) d →
       (IsVersions (after n epochs) × ((writers : List BlocksView) → AreWritten v writers → AreWritten (after n epochs) (set writers p (fresh s)))) × CommitsNext v p pieces (after n epochs)
   commits-next n epochs next put part parts applied exact =
-      rw (next, put) ((next-versions v ok p lt s d own count, next-written v ok p lt s d own count), record {
-        store = s;
-        delta = d;
-        puts = puts-next v ok p lt s d own count;
-        applied = applied ∙ ap (λ (k : ℕ). pieces_applied (k + 1) (view_of was) pieces) next;
-        exact = exact;
-      })
+      rw (next, put) (
+        (next-versions v ok p lt s d own count, next-written v ok p lt s d own count),
+        record {
+          store = s;
+          delta = d;
+          puts = puts-next v ok p lt s d own count;
+          applied = applied ∙ ap (λ (k : ℕ). pieces_applied (k + 1) (view_of was) pieces) next;
+          exact = exact;
+        },
+      )
     where
       own : s.part ≡ p
       own = part ∙ own-store v ok p lt

@@ -94,9 +94,17 @@ fn assert_halves<R: Abort, L: Ledger>(rt: &R, snap: &Snap, blank: Blank)
 {
     let mut steps = Steps::<L>::new(blank);
     assert_eq!(rt; snap.out(FOLLOWER, &mut steps).len(), 1);
-    assert!(rt; snap.out(FOLLOWER, &mut steps).iter().all(|x| *x == half(FOLLOWED)));
+    assert!(rt;
+        snap.out(FOLLOWER, &mut steps)
+            .iter()
+            .all(|x| *x == half(FOLLOWED))
+    );
     assert_eq!(rt; snap.inn(FOLLOWED, &mut steps).len(), 1);
-    assert!(rt; snap.inn(FOLLOWED, &mut steps).iter().all(|x| *x == half(FOLLOWER)));
+    assert!(rt;
+        snap.inn(FOLLOWED, &mut steps)
+            .iter()
+            .all(|x| *x == half(FOLLOWER))
+    );
     assert!(rt; snap.inn(FOLLOWER, &mut steps).is_empty());
 }
 

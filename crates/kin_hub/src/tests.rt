@@ -99,7 +99,10 @@ fn follows_at(hub: &Hub, epoch: Epoch) -> Option<bool> {
 
 // To how many partitions an epoch brought a follow by one of their users, where the epoch is kept.
 fn follows_new_at(hub: &Hub, epoch: Epoch) -> Option<usize> {
-    let with_follows = hub.deltas(epoch)?.iter().filter(|delta| !delta.now_out().is_empty());
+    let with_follows = hub
+        .deltas(epoch)?
+        .iter()
+        .filter(|delta| !delta.now_out().is_empty());
     Some(with_follows.count())
 }
 

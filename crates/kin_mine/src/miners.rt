@@ -61,12 +61,7 @@ impl Miner {
 
     /// Begins the next epoch on its snapshot, which is let go where the call is refused, with what the epoch changed in each partition.
     /// It costs an evaluation of all rules, which reads the snapshot alone.
-    pub fn begin(
-        &mut self,
-        epoch: Epoch,
-        snap: Snap,
-        deltas: &[Delta],
-    ) -> Result<(), BeginRefused>
+    pub fn begin(&mut self, epoch: Epoch, snap: Snap, deltas: &[Delta]) -> Result<(), BeginRefused>
         requires small { IsSmall (joined snap) }
         requires room { begun self.old < u32.MAX }
 

@@ -42,7 +42,13 @@ impl fmt::Display for Uses<'_> {
     fn fmt<W: fmt::Write>(&self, f: &mut fmt::Formatter<W>) -> fmt::Result {
         for row in self.0 {
             let entry = row.entry;
-            write!(f, " {}-{}@{}", row.user.0, TagText(entry.tag), At(entry.first))?;
+            write!(
+                f,
+                " {}-{}@{}",
+                row.user.0,
+                TagText(entry.tag),
+                At(entry.first)
+            )?;
         }
         Ok(())
     }
