@@ -1,5 +1,6 @@
 -- Operations in turn: one more of them, and counts that grow.
-use Rattle.std.proofs.Common.{◌≡◌, ℕ, suc, ◌+◌, ◌<◌, ◌≤◌, Bool, true, false, if◌then◌else◌, List, [], ◌∷◌, length, get_or, drop, drop-cons, refl, sym, ap, ◌∙◌, subst, arith, add-one}
+use Rattle.std.proofs.Common.{◌≡◌, ℕ, suc, ◌+◌, ◌<◌, ◌≤◌, Bool, true, false, if◌then◌else◌, List, [], ◌∷◌, length, get_or, drop}
+use Rattle.std.proofs.Common.{drop-cons, refl, sym, ap, ◌∙◌, subst, arith, add-one}
 use Rattle.kin_ids.specs.declared.ids.User.{User}
 use Rattle.kin_ids.specs.declared.stamps.Place.{Place}
 use Rattle.kin_ids.specs.declared.ops.Op.{Op}
@@ -17,7 +18,8 @@ place_in e i x = record { epoch = record { 0 = e }; ingest = record { 0 = i }; n
 pub done_all-more : (e i : ℕ) (k : Kept) (ops : List Numbered) (n : ℕ) (x : Numbered) → n < length ops → x ≡ get_or ops n x
     → done_all e i k (drop n ops) ≡ done_all e i (done (place_in e i x) k x.op) (drop (n + 1) ops)
 done_all-more e i k ops n x within is =
-    ap (λ (xs : List Numbered). done_all e i k xs) (drop-cons ops n x within ∙ ap (λ (y : Numbered). y ∷ drop (suc n) ops) (sym is)) ∙ rw add-one refl
+    ap (λ (xs : List Numbered). done_all e i k xs) (drop-cons ops n x within ∙ ap (λ (y : Numbered). y ∷ drop (suc n) ops) (sym is))
+    ∙ rw add-one refl
 
 row-grows : (at : Place) (r : UserRow) (o : Op) → r.said ≤ (row_applied at r o).said
 row-grows at r (op.AddOut u w) = omega arith
@@ -50,4 +52,9 @@ done-grows at k (op.TagUse t w) u = omega arith
 -- numbers of `said` never fall
 pub done_all-grows : (e i : ℕ) (k : Kept) (ops : List Numbered) (u : User) → (k.row u).said ≤ ((done_all e i k ops).row u).said
 done_all-grows e i k [] u = omega arith
-done_all-grows e i k (x ∷ xs) u = omega (arith, done-grows (place_in e i x) k x.op u, done_all-grows e i (done (place_in e i x) k x.op) xs u)
+done_all-grows e i k (x ∷ xs) u = omega (
+  arith,
+  done-grows (place_in e i x) k x.op u,
+  done_all-grows e i
+      (done (place_in e i x) k x.op) xs u,
+)

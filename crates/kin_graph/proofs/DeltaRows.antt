@@ -23,11 +23,13 @@ abbrev half : ℕ → Bool → Half
 half n b = record { other = user n; present = b; added = place }
 
 -- added for the first time, and there: new and now
-pub first-added : (is_new None (Some (half 2 true)) ≡ true) × ((is_now None (Some (half 2 true)) ≡ true) × (is_gone None (Some (half 2 true)) ≡ false))
+pub first-added : (is_new None (Some (half 2 true)) ≡ true)
+    × ((is_now None (Some (half 2 true)) ≡ true) × (is_gone None (Some (half 2 true)) ≡ false))
 first-added = (refl, (refl, refl))
 
 -- added for the first time and taken away in the same epoch: new alone
-pub added-and-dropped : (is_new None (Some (half 2 false)) ≡ true) × ((is_now None (Some (half 2 false)) ≡ false) × (is_gone None (Some (half 2 false)) ≡ false))
+pub added-and-dropped : (is_new None (Some (half 2 false)) ≡ true)
+    × ((is_now None (Some (half 2 false)) ≡ false) × (is_gone None (Some (half 2 false)) ≡ false))
 added-and-dropped = (refl, (refl, refl))
 
 -- taken away and added again in the same epoch: nothing
@@ -82,7 +84,8 @@ pub used-again : new_use (user 1) (Some use_again) (Some use_again) ≡ []
 used-again = refl
 
 -- that 1 follows 2 no longer is of the half out of 1, and of none into 1; that 1 is followed by 2 no longer the other way round
-pub drops-touch : (touches_out (op.DropOut (user 1) (user 2)) (pair (user 1) (user 2)) ≡ true) × ((touches_in (op.DropOut (user 1) (user 2)) (pair (user 1) (user 2)) ≡ false)
+pub drops-touch : (touches_out (op.DropOut (user 1) (user 2)) (pair (user 1) (user 2)) ≡ true)
+    × ((touches_in (op.DropOut (user 1) (user 2)) (pair (user 1) (user 2)) ≡ false)
     × (touches_in (op.DropIn (user 1) (user 2)) (pair (user 1) (user 2)) ≡ true))
 drops-touch = (refl, (refl, refl))
 
@@ -91,6 +94,7 @@ pub mentions-touch : (touches_said (op.Said (user 1)) (user 1) ≡ true) × (tou
 mentions-touch = (refl, refl)
 
 -- a use is of the tag's users on the one partition, and of the user's tags on the other
-pub uses-touch : (touches_use (op.Use (user 1) (97 ∷ [])) (tag_user (97 ∷ []) (user 1)) ≡ true) × ((touches_tag (op.Use (user 1) (97 ∷ [])) (tag_user (97 ∷ []) (user 1)) ≡ false)
+pub uses-touch : (touches_use (op.Use (user 1) (97 ∷ [])) (tag_user (97 ∷ []) (user 1)) ≡ true)
+    × ((touches_tag (op.Use (user 1) (97 ∷ [])) (tag_user (97 ∷ []) (user 1)) ≡ false)
     × (touches_tag (op.TagUse (97 ∷ []) (user 1)) (tag_user (97 ∷ []) (user 1)) ≡ true))
 uses-touch = (refl, (refl, refl))

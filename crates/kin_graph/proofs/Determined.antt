@@ -1,5 +1,6 @@
 -- What a delta tells depends on the two graphs alone.
-use Rattle.std.proofs.Common.{◌≡◌, ℕ, nat_lt, ◌-◌, ◌&&◌, ◌==◌, Bool, true, false, not, cond, subst, List, [], ◌∷◌, Option, Some, None, is_some, All, refl, sym, ap, ap₂, ◌∙◌, arith}
+use Rattle.std.proofs.Common.{◌≡◌, ℕ, nat_lt, ◌-◌, ◌&&◌, ◌==◌, Bool, true, false, not, cond, subst, List, [], ◌∷◌, Option, Some, None}
+use Rattle.std.proofs.Common.{is_some, All, refl, sym, ap, ap₂, ◌∙◌, arith}
 use Rattle.std.specs.List.{list_any, find}
 use Rattle.std.specs.List.Sorted.{IsPermutation}
 use Rattle.std.proofs.lemmas.Bool.{both_ways, le-ltb, or_parts}
@@ -17,7 +18,8 @@ use Rattle.kin_ids.proofs.Same.{same_tag-true, list_any-weaker}
 use Rattle.kin_ids.proofs.Halves.{lists-law}
 use Rattle.kin_store.specs.declared.pairs.TagUser.{TagUser}
 use Rattle.kin_graph.specs.declared.deltas.SaidRow.{SaidRow}
-use Rattle.kin_graph.specs.Deltas.{DeltaLists, no_change, half_to, use_of, is_present, is_new, is_now, is_gone, one_if, new_use, pair_in, IsDelta}
+use Rattle.kin_graph.specs.Deltas.{DeltaLists, no_change, half_to, use_of, is_present, is_new, is_now, is_gone, one_if, new_use}
+use Rattle.kin_graph.specs.Deltas.{pair_in, IsDelta}
 use Rattle.kin_graph.specs.Touches.{IsTouched, untouched, tag_user}
 use Rattle.kin_graph.specs.Tells.{TellsLaw, NoChangeLaw}
 use Rattle.kin_graph.proofs.Picking.{any-find, find-passes}
@@ -33,7 +35,8 @@ module _ {X : Type 0} (same : X → X → Bool) (p : X → Bool) (tells : (x y :
   one-passes : (xs : List X) (x : X) → IsOnce same xs → find p xs ≡ Some x → All (λ y. p y ≡ true → y ≡ x) xs
   one-passes [] x once e = absurd cc
   one-passes (z ∷ zs) x once e = by_test (p z) refl e (one-passes zs x once.1) where
-    by_test : (b : Bool) → p z ≡ b → cond b (Some z) (find p zs) ≡ Some x → (find p zs ≡ Some x → All (λ y. p y ≡ true → y ≡ x) zs) → All (λ y. p y ≡ true → y ≡ x) (z ∷ zs)
+    by_test : (b : Bool) → p z ≡ b → cond b (Some z) (find p zs) ≡ Some x → (find p zs ≡ Some x → All (λ y. p y ≡ true → y ≡ x) zs)
+        → All (λ y. p y ≡ true → y ≡ x) (z ∷ zs)
     by_test true t f rest =
         let is : z ≡ x = cc in
         All-cons (λ y. p y ≡ true → y ≡ x) z zs (λ h. is) (none-passes zs x (list_any-weaker p (same z) zs (λ y h. tells z y t h) once.0))
@@ -56,7 +59,8 @@ module _ {X : Type 0} (same : X → X → Bool) (p : X → Bool) (tells : (x y :
     by_found None (Some y) d e = absurd (both_ways true (sym (ap is_some e) ∙ (some ∙ ap is_some d)) refl)
     by_found (Some x) None d e = absurd (both_ways true (sym (ap is_some d) ∙ (sym some ∙ ap is_some e)) refl)
     by_found (Some x) (Some y) d e =
-        ap Some (all-found (λ z. p z ≡ true → z ≡ x) ys y (All-permutation (λ z. p z ≡ true → z ≡ x) xs ys moved (one-passes xs x once d)) e (find-passes p ys y e))
+        ap Some (all-found (λ z. p z ≡ true → z ≡ x) ys y (All-permutation (λ z. p z ≡ true → z ≡ x) xs ys moved (one-passes xs x once d)) e
+        (find-passes p ys y e))
 
 -- a list for those who live here has each item once, where the list has
 once-here : {X : Type 0} (same : X → X → Bool) (b : Bool) (xs : List X) → IsOnce same xs → IsOnce same (if_here b xs)
@@ -68,16 +72,21 @@ pub parts-alike : (parts p : ℕ) (g : Graph) (v w : PartView) → IsSound g →
 parts-alike parts p g v w sound a b = record {
   out = λ q t. ap (λ (hs : List Half). half_to hs q.other) (b.out q.user ∙ sym (a.out q.user));
   inn = λ q t. ap (λ (hs : List Half). half_to hs q.other) (b.inn q.user ∙ sym (a.inn q.user));
-  mentions = λ q t. list_any-IsPermutation (same_user q.other) _ _ (b.mentions q.user) ∙ sym (list_any-IsPermutation (same_user q.other) _ _ (a.mentions q.user));
-  mentioners = λ q t. list_any-IsPermutation (same_user q.other) _ _ (b.mentioners q.user) ∙ sym (list_any-IsPermutation (same_user q.other) _ _ (a.mentioners q.user));
+  mentions = λ q t. list_any-IsPermutation (same_user q.other) _ _ (b.mentions q.user)
+      ∙ sym (list_any-IsPermutation (same_user q.other) _ _ (a.mentions q.user));
+  mentioners = λ q t. list_any-IsPermutation (same_user q.other) _ _ (b.mentioners q.user)
+      ∙ sym (list_any-IsPermutation (same_user q.other) _ _ (a.mentioners q.user));
   said = λ u t. b.said u ∙ sym (a.said u);
   uses = λ q t. used w b q ∙ sym (used v a q);
-  tag_users = λ q t. list_any-IsPermutation (same_user q.user) _ _ (b.tag_users q.tag) ∙ sym (list_any-IsPermutation (same_user q.user) _ _ (a.tag_users q.tag));
+  tag_users = λ q t. list_any-IsPermutation (same_user q.user) _ _ (b.tag_users q.tag)
+      ∙ sym (list_any-IsPermutation (same_user q.user) _ _ (a.tag_users q.tag));
 } where
-  used : (x : PartView) → IsPart parts p g x → (q : TagUser) → use_of (x.uses q.user) q.tag ≡ use_of (if_here (user_part parts q.user == p) (uses_of g q.user)) q.tag
+  used : (x : PartView) → IsPart parts p g x → (q : TagUser) → use_of (x.uses q.user) q.tag
+      ≡ use_of (if_here (user_part parts q.user == p) (uses_of g q.user)) q.tag
   used x is q = found-same (λ (y z : Use). same_tag y.tag z.tag) (λ (y : Use). same_tag q.tag y.tag)
       (λ y z s t. subst (λ (l : List ℕ). same_tag l z.tag ≡ true) (same_tag-true q.tag y.tag s) t)
-      _ (x.uses q.user) (once-here _ (user_part parts q.user == p) (uses_of g q.user) ((lists-law g sound).uses q.user)) (IsPermutation-sym _ _ (is.uses q.user))
+      _ (x.uses q.user) (once-here _ (user_part parts q.user == p) (uses_of g q.user) ((lists-law g sound).uses q.user))
+      (IsPermutation-sym _ _ (is.uses q.user))
 
 -- between parts that hand out the same, what differs is the same
 pub delta-alike : (v w x y : PartView) (d : DeltaLists) → IsTouched untouched v x → IsTouched untouched w y → IsDelta v w d → IsDelta x y d
@@ -91,8 +100,10 @@ delta-alike v w x y d was is e = record {
   mention_out = λ p. e.mention_out p ∙ ap₂ (λ (a b : Bool). one_if (b && not a) p) (sym (was.mentions p refl)) (sym (is.mentions p refl));
   mention_in = λ p. e.mention_in p ∙ ap₂ (λ (a b : Bool). one_if (b && not a) p) (sym (was.mentioners p refl)) (sym (is.mentioners p refl));
   said = λ u. e.said u ∙ ap₂ (λ (a b : ℕ). one_if (nat_lt a b) (said_row u (b - a))) (sym (was.said u refl)) (sym (is.said u refl));
-  uses = λ u t. e.uses u t ∙ ap₂ (λ (a b : Option Use). new_use u a b) (sym (was.uses (tag_user t u) refl)) (sym (is.uses (tag_user t u) refl));
-  tag_users = λ t u. e.tag_users t u ∙ ap₂ (λ (a b : Bool). one_if (b && not a) (tag_user t u)) (sym (was.tag_users (tag_user t u) refl)) (sym (is.tag_users (tag_user t u) refl));
+  uses = λ u t. e.uses u t ∙ ap₂ (λ (a b : Option Use). new_use u a b) (sym (was.uses (tag_user t u) refl))
+      (sym (is.uses (tag_user t u) refl));
+  tag_users = λ t u. e.tag_users t u ∙ ap₂ (λ (a b : Bool). one_if (b && not a) (tag_user t u)) (sym (was.tag_users (tag_user t u) refl))
+      (sym (is.tag_users (tag_user t u) refl));
 } where
   said_row : User → ℕ → SaidRow
   said_row u n = record { user = u; number = n }
@@ -116,12 +127,21 @@ delta-none v w e = delta-alike v v v w no_change same e (record {
   gone_in = λ p. ap (λ (b : Bool). one_if b p) (sym (and-not (is_present (pair_in v.inn p))));
   mention_out = λ p. ap (λ (b : Bool). one_if b p) (sym (and-not (has_user (v.mentions p.user) p.other)));
   mention_in = λ p. ap (λ (b : Bool). one_if b p) (sym (and-not (has_user (v.mentioners p.user) p.other)));
-  said = λ u. ap (λ (b : Bool). one_if b (record { user = u; number = v.said u - v.said u })) (sym (le-ltb (v.said u) (v.said u) (omega arith)));
+  said = λ u. ap (λ (b : Bool). one_if b (record { user = u; number = v.said u - v.said u }))
+      (sym (le-ltb (v.said u) (v.said u) (omega arith)));
   uses = λ u t. no-use u (use_of (v.uses u) t);
   tag_users = λ t u. ap (λ (b : Bool). one_if b (tag_user t u)) (sym (and-not (has_user (v.tag_users t) u)));
 }) where
   same : IsTouched untouched v v
-  same = record { out = λ p t. refl; inn = λ p t. refl; mentions = λ p t. refl; mentioners = λ p t. refl; said = λ u t. refl; uses = λ p t. refl; tag_users = λ p t. refl }
+  same = record {
+    out = λ p t. refl;
+    inn = λ p t. refl;
+    mentions = λ p t. refl;
+    mentioners = λ p t. refl;
+    said = λ u t. refl;
+    uses = λ p t. refl;
+    tag_users = λ p t. refl;
+  }
 
 pub tells-law : TellsLaw
 tells-law parts p was is v w d sound sound-is a b e = record {

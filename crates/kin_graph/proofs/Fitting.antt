@@ -14,7 +14,8 @@ use Rattle.kin_graph.specs.Rows.{UserRow}
 use Rattle.kin_graph.specs.State.{after, empty_part, view_of}
 
 -- a fitting piece has operations of its own partition alone
-pub fits-home : (parts : ℕ) (feeds : List (List Record)) (x : Piece) → Fits parts feeds x → All (λ (o : Numbered). op_part parts o.op ≡ x.part.0) x.ops
+pub fits-home : (parts : ℕ) (feeds : List (List Record)) (x : Piece) → Fits parts feeds x
+    → All (λ (o : Numbered). op_part parts o.op ≡ x.part.0) x.ops
 fits-home parts feeds x fits =
     subst (λ (ops : List Numbered). All (λ (o : Numbered). op_part parts o.op ≡ x.part.0) ops) (sym fits.exact)
     (part-home parts x.part.0 x.stamp.from (stamp_records feeds x.stamp))

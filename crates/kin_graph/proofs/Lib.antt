@@ -11,3 +11,4 @@ pub mod Determined
 pub mod Noting
 pub mod Exact
 pub mod DeltaRows
+pub mod AllNoting

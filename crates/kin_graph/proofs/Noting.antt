@@ -1,5 +1,6 @@
 -- Notes of what operations are of.
-use Rattle.std.proofs.Common.{◌≡◌, ℕ, ◌+◌, ◌<◌, ◌≤◌, ◌&&◌, ◌||◌, Bool, true, false, cond, List, [], ◌∷◌, length, take, get_or, refl, sym, ap, ◌∙◌, subst}
+use Rattle.std.proofs.Common.{◌≡◌, ℕ, ◌+◌, ◌<◌, ◌≤◌, ◌&&◌, ◌||◌, Bool, true, false, cond, List, [], ◌∷◌, length, take, get_or, refl}
+use Rattle.std.proofs.Common.{sym, ap, ◌∙◌, subst}
 use Rattle.std.specs.List.{list_any}
 use Rattle.std.specs.BTreeMap.{is_at}
 use Rattle.std.specs.Ordering.{is_eq, ordering_then}
@@ -15,7 +16,8 @@ use Rattle.kin_store.specs.declared.pairs.Pair.{Pair}
 use Rattle.kin_store.specs.declared.pairs.TagUser.{TagUser}
 use Rattle.kin_graph.specs.Deltas.{same_pair}
 use Rattle.kin_store.specs.Pairs.{pair_cmp, tag_user_cmp}
-use Rattle.kin_graph.specs.Touches.{TouchedLists, same_tag_user, has_pair, has_tag_user, touches_out, touches_in, touches_mention, touches_mentioner, touches_said, touches_use, touches_tag, KeepsNotes, HasNoted, NotesOp}
+use Rattle.kin_graph.specs.Touches.{TouchedLists, same_tag_user, has_pair, has_tag_user, touches_out, touches_in, touches_mention}
+use Rattle.kin_graph.specs.Touches.{touches_mentioner, touches_said, touches_use, touches_tag, KeepsNotes, HasNoted, NotesOp}
 
 both-equal : (a b : Ordering) → (is_eq a && is_eq b) ≡ is_eq (ordering_then a b)
 both-equal Less b = refl
@@ -44,14 +46,16 @@ pub put-other : (b was is : Bool) → is ≡ cond b true was → is ≡ false �
 put-other true was is e f = absurd (both_ways is f e)
 put-other false was is e f = refl
 
-module _ (old new : List Pair) (a : Pair) (puts : (q : Pair) → list_any (is_at (pair_cmp q)) new ≡ cond (is_at (pair_cmp a) q) true (list_any (is_at (pair_cmp q)) old)) (p : Pair) (none : has_pair new p ≡ false) where
+module _ (old new : List Pair) (a : Pair) (puts : (q : Pair) → list_any (is_at (pair_cmp q)) new ≡ cond (is_at (pair_cmp a) q) true
+    (list_any (is_at (pair_cmp q)) old)) (p : Pair) (none : has_pair new p ≡ false) where
   pub pair-kept : has_pair old p ≡ false
   pair-kept = has_pair-at old p ∙ put-kept (is_at (pair_cmp a) p) _ _ (puts p) (sym (has_pair-at new p) ∙ none)
 
   pub pair-other : same_pair a p ≡ false
   pair-other = pair-at a p ∙ put-other (is_at (pair_cmp a) p) _ _ (puts p) (sym (has_pair-at new p) ∙ none)
 
-module _ (old new : List TagUser) (a : TagUser) (puts : (q : TagUser) → list_any (is_at (tag_user_cmp q)) new ≡ cond (is_at (tag_user_cmp a) q) true (list_any (is_at (tag_user_cmp q)) old)) (p : TagUser) (none : has_tag_user new p ≡ false) where
+module _ (old new : List TagUser) (a : TagUser) (puts : (q : TagUser) → list_any (is_at (tag_user_cmp q)) new
+    ≡ cond (is_at (tag_user_cmp a) q) true (list_any (is_at (tag_user_cmp q)) old)) (p : TagUser) (none : has_tag_user new p ≡ false) where
   pub tag_user-kept : has_tag_user old p ≡ false
   tag_user-kept = has_tag_user-at old p ∙ put-kept (is_at (tag_user_cmp a) p) _ _ (puts p) (sym (has_tag_user-at new p) ∙ none)
 
@@ -59,7 +63,15 @@ module _ (old new : List TagUser) (a : TagUser) (puts : (q : TagUser) → list_a
   tag_user-other = tag_user-at a p ∙ put-other (is_at (tag_user_cmp a) p) _ _ (puts p) (sym (has_tag_user-at new p) ∙ none)
 
 pub keeps-refl : (x : TouchedLists) → KeepsNotes x x
-keeps-refl x = record { out = λ p e. e; inn = λ p e. e; mentions = λ p e. e; mentioners = λ p e. e; said = λ u e. e; uses = λ p e. e; tag_users = λ p e. e }
+keeps-refl x = record {
+  out = λ p e. e;
+  inn = λ p e. e;
+  mentions = λ p e. e;
+  mentioners = λ p e. e;
+  said = λ u e. e;
+  uses = λ p e. e;
+  tag_users = λ p e. e;
+}
 
 pub keeps-trans : (x y z : TouchedLists) → KeepsNotes x y → KeepsNotes y z → KeepsNotes x z
 keeps-trans x y z k l = record {
@@ -73,13 +85,22 @@ keeps-trans x y z k l = record {
 }
 
 pub noted-none : (ops : List Numbered) (x : TouchedLists) → HasNoted (take 0 ops) x
-noted-none ops x = record { out = λ p e. refl; inn = λ p e. refl; mentions = λ p e. refl; mentioners = λ p e. refl; said = λ u e. refl; uses = λ p e. refl; tag_users = λ p e. refl }
+noted-none ops x = record {
+  out = λ p e. refl;
+  inn = λ p e. refl;
+  mentions = λ p e. refl;
+  mentioners = λ p e. refl;
+  said = λ u e. refl;
+  uses = λ p e. refl;
+  tag_users = λ p e. refl;
+}
 
 -- one operation more
 module _ (ops : List Numbered) (i : ℕ) (x : Numbered) (within : i < length ops) (is : x ≡ get_or ops i x) where
   any-more : (f : Numbered → Bool) → list_any f (take i ops) ≡ false → f x ≡ false → list_any f (take (i + 1) ops) ≡ false
   any-more f none last =
-      ap (list_any f) (take_more ops i x within) ∙ (list_any-append f (take i ops) (get_or ops i x ∷ []) ∙ neither (list_any f (take i ops)) (f (get_or ops i x)) none (sym (ap f is) ∙ last)) where
+      ap (list_any f) (take_more ops i x within) ∙ (list_any-append f (take i ops) (get_or ops i x ∷ [])
+      ∙ neither (list_any f (take i ops)) (f (get_or ops i x)) none (sym (ap f is) ∙ last)) where
         neither : (a b : Bool) → a ≡ false → b ≡ false → (a || (b || false)) ≡ false
         neither true b e f = e
         neither false true e f = f

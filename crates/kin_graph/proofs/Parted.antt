@@ -26,14 +26,16 @@ part_view k = record {
 }
 
 -- a part of a row that is written over
-read-changed : {A : Type 0} (p : UserRow → A) (f : User → UserRow) (u : User) (r : UserRow) (q : User) → p (changed f u r q) ≡ changed (λ v. p (f v)) u (p r) q
+read-changed : {A : Type 0} (p : UserRow → A) (f : User → UserRow) (u : User) (r : UserRow) (q : User)
+    → p (changed f u r q) ≡ changed (λ v. p (f v)) u (p r) q
 read-changed p f u r q = by_test (same_user u q) where
   by_test : (b : Bool) → p (if b then r else f q) ≡ (if b then p r else p (f q))
   by_test true = refl
   by_test false = refl
 
 -- a part of a row that stays
-read-same : {A : Type 0} (p : UserRow → A) (f : User → UserRow) (u : User) (r : UserRow) → p r ≡ p (f u) → (q : User) → p (changed f u r q) ≡ p (f q)
+read-same : {A : Type 0} (p : UserRow → A) (f : User → UserRow) (u : User) (r : UserRow) → p r ≡ p (f u) → (q : User)
+    → p (changed f u r q) ≡ p (f q)
 read-same p f u r e q = by_test (same_user u q) refl where
   by_test : (b : Bool) → same_user u q ≡ b → p (if b then r else f q) ≡ p (f q)
   by_test true t = e ∙ ap (λ (v : User). p (f v)) (same_user-true u q t)
@@ -58,7 +60,8 @@ module _ (k : Kept) (u : User) (r : UserRow) where
   same-uses : r.uses ≡ (k.row u).uses → (q : User) → ((with_row k u r).row q).uses ≡ (k.row q).uses
   same-uses e = read-same (λ (x : UserRow). x.uses) k.row u r e
 
-out-changed : (k : Kept) (u : User) (xs : List Half) → part_view (with_row k u (record (k.row u) { out = xs })) ≡ record (part_view k) { out = changed (part_view k).out u xs }
+out-changed : (k : Kept) (u : User) (xs : List Half) → part_view (with_row k u (record (k.row u) { out = xs }))
+    ≡ record (part_view k) { out = changed (part_view k).out u xs }
 out-changed k u xs =
     let r : UserRow = record (k.row u) { out = xs } in
     λ i. record {
@@ -71,7 +74,8 @@ out-changed k u xs =
       tag_users = k.users;
     }
 
-inn-changed : (k : Kept) (u : User) (xs : List Half) → part_view (with_row k u (record (k.row u) { inn = xs })) ≡ record (part_view k) { inn = changed (part_view k).inn u xs }
+inn-changed : (k : Kept) (u : User) (xs : List Half) → part_view (with_row k u (record (k.row u) { inn = xs }))
+    ≡ record (part_view k) { inn = changed (part_view k).inn u xs }
 inn-changed k u xs =
     let r : UserRow = record (k.row u) { inn = xs } in
     λ i. record {
@@ -138,4 +142,5 @@ part-done at k (op.TagUse t u) = refl
 
 pub part-done_all : (e i : ℕ) (k : Kept) (ops : List Numbered) → part_view (done_all e i k ops) ≡ ops_applied e i (part_view k) ops
 part-done_all e i k [] = refl
-part-done_all e i k (x ∷ xs) = part-done_all e i (done (place_in e i x) k x.op) xs ∙ ap (λ (v : PartView). ops_applied e i v xs) (part-done (place_in e i x) k x.op)
+part-done_all e i k (x ∷ xs) = part-done_all e i (done (place_in e i x) k x.op) xs ∙ ap (λ (v : PartView). ops_applied e i v xs)
+    (part-done (place_in e i x) k x.op)

@@ -25,7 +25,8 @@ module _ (g : Graph) (v : PartView) (whole : IsViewOf g v) where
       let c = none-permutation _ _ (whole.mentions u) in
       let d = none-permutation _ _ (whole.mentioners u) in
       let e = none-permutation _ _ (whole.uses u) in
-      ap not (ap₂ (λ (x y : Bool). x && y) (ap₂ (λ (x y : Bool). x && y) (ap₂ (λ (x y : Bool). x && y) a b) (ap₂ (λ (x y : Bool). x && y) c d)) e) ∙ has-something g u
+      ap not (ap₂ (λ (x y : Bool). x && y) (ap₂ (λ (x y : Bool). x && y) (ap₂ (λ (x y : Bool). x && y) a b)
+      (ap₂ (λ (x y : Bool). x && y) c d)) e) ∙ has-something g u
 
   -- the tags in use are the graph's
   pub whole-in_use : (t : List ℕ) → is_in_use v t ≡ list_any (same_tag t) (tags_in g)

@@ -1,5 +1,5 @@
 -- What a delta between two versions of a partition's part tells.
-use Rattle.std.specs.Prelude.{◌≡◌, ℕ, nat_lt, ◌-◌, ◌&&◌, not, Bool, true, false, List, [], ◌∷◌}
+use Rattle.std.specs.Prelude.{◌≡◌, ◌≤◌, ℕ, nat_lt, ◌-◌, ◌&&◌, not, Bool, true, false, List, [], ◌∷◌}
 use Rattle.std.specs.Prelude.{filter, Option, Some, None, is_some}
 use Rattle.std.specs.Arc.{arc_value}
 use Rattle.std.specs.declared.sync.Arc.{Arc}
@@ -110,3 +110,13 @@ pub record IsDelta (was is : PartView) (d : DeltaLists) : Type 0 where
       ≡ new_use u (use_of (was.uses u) t) (use_of (is.uses u) t)
   pub tag_users : (t : List ℕ) (u : User) → filter (λ x. same_tag t x.tag && same_user u x.user) d.tag_users
       ≡ one_if (has_user (is.tag_users t) u && not (has_user (was.tag_users t) u)) (record { tag = t; user = u })
+
+-- A later part has all that an earlier one has: no half, mention, use or user of a tag is missing, and no number of `said` is less.
+pub record HasAll (was is : PartView) : Type 0 where
+  pub out : (p : Pair) → pair_in is.out p ≡ None → pair_in was.out p ≡ None
+  pub inn : (p : Pair) → pair_in is.inn p ≡ None → pair_in was.inn p ≡ None
+  pub mentions : (p : Pair) → has_user (is.mentions p.user) p.other ≡ false → has_user (was.mentions p.user) p.other ≡ false
+  pub mentioners : (p : Pair) → has_user (is.mentioners p.user) p.other ≡ false → has_user (was.mentioners p.user) p.other ≡ false
+  pub said : (u : User) → was.said u ≤ is.said u
+  pub uses : (p : TagUser) → use_of (is.uses p.user) p.tag ≡ None → use_of (was.uses p.user) p.tag ≡ None
+  pub tag_users : (p : TagUser) → has_user (is.tag_users p.tag) p.user ≡ false → has_user (was.tag_users p.tag) p.user ≡ false

@@ -11,6 +11,8 @@ use Rattle.kin_store.specs.declared.pairs.TagUser.{TagUser}
 use Rattle.kin_graph.specs.declared.deltas.SaidRow.{SaidRow}
 use Rattle.kin_graph.specs.declared.deltas.UseRow.{UseRow}
 use Rattle.kin_graph.specs.declared.deltas.HalfChanges.{HalfChanges}
+use Rattle.kin_graph.specs.declared.differences.Side.{Side}
+use Rattle.kin_graph.specs.declared.differences.Side.TheVariants as side
 use Rattle.kin_graph.specs.Deltas.{DeltaLists, use_of, is_new, is_now, is_gone, one_if, new_use, pair_in, is_met}
 use Rattle.kin_graph.specs.Touches.{TouchedLists}
 
@@ -38,19 +40,22 @@ also_told p was is c = record {
 abbrev pub said_rows : ℕ → ℕ → User → List SaidRow
 said_rows was is u = one_if (nat_lt was is) (record { user = u; number = is - was })
 
--- what changed of the halves with these ends, out of users and into them
-abbrev pub out_changes : PartView → PartView → List Pair → HalfChanges
-out_changes was is ps = half_changes (pair_in was.out) (pair_in is.out) ps
+-- the halves of each user on a side, and the users who are mentioned there
+abbrev pub halves_on : Side → PartView → User → List Half
+halves_on side.Out v = v.out
+halves_on side.In v = v.inn
 
-abbrev pub in_changes : PartView → PartView → List Pair → HalfChanges
-in_changes was is ps = half_changes (pair_in was.inn) (pair_in is.inn) ps
+abbrev pub users_on : Side → PartView → User → List User
+users_on side.Out v = v.mentions
+users_on side.In v = v.mentioners
 
--- of these pairs, those whose user mentions the other and didn't, and those whose user is mentioned and wasn't
-abbrev pub new_mentions : PartView → PartView → List Pair → List Pair
-new_mentions was is ps = gathered (λ p. one_if (is_met was.mentions is.mentions p) p) ps
+-- what changed of the halves with these ends on a side
+abbrev pub changes_on : Side → PartView → PartView → List Pair → HalfChanges
+changes_on s was is ps = half_changes (pair_in (halves_on s was)) (pair_in (halves_on s is)) ps
 
-abbrev pub new_mentioners : PartView → PartView → List Pair → List Pair
-new_mentioners was is ps = gathered (λ p. one_if (is_met was.mentioners is.mentioners p) p) ps
+-- of these pairs, those that are of a mention on a side and weren't
+abbrev pub mentions_on : Side → PartView → PartView → List Pair → List Pair
+mentions_on s was is ps = gathered (λ p. one_if (is_met (users_on s was) (users_on s is) p) p) ps
 
 -- by how much the numbers of these users grew, where they did
 abbrev pub said_more : PartView → PartView → List User → List SaidRow
@@ -69,14 +74,14 @@ new_tag_users was is ps = gathered (λ p. one_if (is_new_user was is p) p) ps
 
 -- the lists of a delta as the loops over what was touched fill them
 pub record IsFilled (x : TouchedLists) (was is : PartView) (d : DeltaLists) : Type 0 where
-  pub new_out : d.new_out ≡ (out_changes was is x.out).added
-  pub new_in : d.new_in ≡ (in_changes was is x.inn).added
-  pub now_out : d.now_out ≡ (out_changes was is x.out).present
-  pub now_in : d.now_in ≡ (in_changes was is x.inn).present
-  pub gone_out : d.gone_out ≡ (out_changes was is x.out).gone
-  pub gone_in : d.gone_in ≡ (in_changes was is x.inn).gone
-  pub mention_out : d.mention_out ≡ new_mentions was is x.mentions
-  pub mention_in : d.mention_in ≡ new_mentioners was is x.mentioners
+  pub new_out : d.new_out ≡ (changes_on side.Out was is x.out).added
+  pub new_in : d.new_in ≡ (changes_on side.In was is x.inn).added
+  pub now_out : d.now_out ≡ (changes_on side.Out was is x.out).present
+  pub now_in : d.now_in ≡ (changes_on side.In was is x.inn).present
+  pub gone_out : d.gone_out ≡ (changes_on side.Out was is x.out).gone
+  pub gone_in : d.gone_in ≡ (changes_on side.In was is x.inn).gone
+  pub mention_out : d.mention_out ≡ mentions_on side.Out was is x.mentions
+  pub mention_in : d.mention_in ≡ mentions_on side.In was is x.mentioners
   pub said : d.said ≡ said_more was is x.said
   pub uses : d.uses ≡ new_uses was is x.uses
   pub tag_users : d.tag_users ≡ new_tag_users was is x.tag_users

@@ -11,7 +11,8 @@ pub record Tells (parts p : ℕ) (was is : Graph) (d : DeltaLists) : Type 0 wher
 
 -- what is exact between two parts is so between all parts of their graphs
 abbrev pub TellsLaw : Type 0
-TellsLaw = (parts p : ℕ) (was is : Graph) (v w : PartView) (d : DeltaLists) → IsSound was → IsSound is → IsPart parts p was v → IsPart parts p is w → IsDelta v w d → Tells parts p was is d
+TellsLaw = (parts p : ℕ) (was is : Graph) (v w : PartView) (d : DeltaLists) → IsSound was → IsSound is
+    → IsPart parts p was v → IsPart parts p is w → IsDelta v w d → Tells parts p was is d
 
 -- between a graph and itself nothing changed
 abbrev pub NoChangeLaw : Type 0

@@ -1,5 +1,5 @@
 -- What operations touch of a partition's part, and what that leaves as it was.
-use Rattle.std.specs.Prelude.{◌≡◌, ◌&&◌, Bool, false, List, []}
+use Rattle.std.specs.Prelude.{◌≡◌, ℕ, ◌&&◌, Bool, true, false, List, [], None}
 use Rattle.std.specs.List.{list_any}
 use Rattle.kin_ids.specs.declared.ids.User.{User}
 use Rattle.kin_ids.specs.declared.ops.Op.{Op}
@@ -10,7 +10,8 @@ use Rattle.kin_ids.specs.Parts.{PartView}
 use Rattle.kin_store.specs.declared.pairs.Pair.{Pair}
 use Rattle.kin_store.specs.declared.pairs.TagUser.{TagUser}
 pub use Rattle.kin_store.specs.Pairs.{pair, tag_user}
-use Rattle.kin_graph.specs.Deltas.{same_pair, pair_in, use_of}
+use Rattle.kin_store.specs.Rows.{UserRow}
+use Rattle.kin_graph.specs.Deltas.{same_pair, pair_in, half_to, use_of}
 
 -- Of what operations were: the follow halves on both sides, the mentions on both sides, the numbers of `said`, the uses of tags by
 -- users, and the users of tags.
@@ -80,20 +81,25 @@ pub record IsTouched (x : TouchedLists) (was is : PartView) : Type 0 where
   pub out : (p : Pair) → has_pair x.out p ≡ false → pair_in is.out p ≡ pair_in was.out p
   pub inn : (p : Pair) → has_pair x.inn p ≡ false → pair_in is.inn p ≡ pair_in was.inn p
   pub mentions : (p : Pair) → has_pair x.mentions p ≡ false → has_user (is.mentions p.user) p.other ≡ has_user (was.mentions p.user) p.other
-  pub mentioners : (p : Pair) → has_pair x.mentioners p ≡ false → has_user (is.mentioners p.user) p.other ≡ has_user (was.mentioners p.user) p.other
+  pub mentioners : (p : Pair) → has_pair x.mentioners p ≡ false
+      → has_user (is.mentioners p.user) p.other ≡ has_user (was.mentioners p.user) p.other
   pub said : (u : User) → has_user x.said u ≡ false → is.said u ≡ was.said u
   pub uses : (p : TagUser) → has_tag_user x.uses p ≡ false → use_of (is.uses p.user) p.tag ≡ use_of (was.uses p.user) p.tag
-  pub tag_users : (p : TagUser) → has_tag_user x.tag_users p ≡ false → has_user (is.tag_users p.tag) p.user ≡ has_user (was.tag_users p.tag) p.user
+  pub tag_users : (p : TagUser) → has_tag_user x.tag_users p ≡ false
+      → has_user (is.tag_users p.tag) p.user ≡ has_user (was.tag_users p.tag) p.user
 
 -- Both parts hand out the same of everything of which no operation is.
 pub record LeavesOthers (ops : List Numbered) (was is : PartView) : Type 0 where
   pub out : (p : Pair) → list_any (λ x. touches_out x.op p) ops ≡ false → pair_in is.out p ≡ pair_in was.out p
   pub inn : (p : Pair) → list_any (λ x. touches_in x.op p) ops ≡ false → pair_in is.inn p ≡ pair_in was.inn p
-  pub mentions : (p : Pair) → list_any (λ x. touches_mention x.op p) ops ≡ false → has_user (is.mentions p.user) p.other ≡ has_user (was.mentions p.user) p.other
-  pub mentioners : (p : Pair) → list_any (λ x. touches_mentioner x.op p) ops ≡ false → has_user (is.mentioners p.user) p.other ≡ has_user (was.mentioners p.user) p.other
+  pub mentions : (p : Pair) → list_any (λ x. touches_mention x.op p) ops ≡ false
+      → has_user (is.mentions p.user) p.other ≡ has_user (was.mentions p.user) p.other
+  pub mentioners : (p : Pair) → list_any (λ x. touches_mentioner x.op p) ops ≡ false
+      → has_user (is.mentioners p.user) p.other ≡ has_user (was.mentioners p.user) p.other
   pub said : (u : User) → list_any (λ x. touches_said x.op u) ops ≡ false → is.said u ≡ was.said u
   pub uses : (p : TagUser) → list_any (λ x. touches_use x.op p) ops ≡ false → use_of (is.uses p.user) p.tag ≡ use_of (was.uses p.user) p.tag
-  pub tag_users : (p : TagUser) → list_any (λ x. touches_tag x.op p) ops ≡ false → has_user (is.tag_users p.tag) p.user ≡ has_user (was.tag_users p.tag) p.user
+  pub tag_users : (p : TagUser) → list_any (λ x. touches_tag x.op p) ops ≡ false
+      → has_user (is.tag_users p.tag) p.user ≡ has_user (was.tag_users p.tag) p.user
 
 -- what was noted still is
 pub record KeepsNotes (old new : TouchedLists) : Type 0 where
@@ -124,3 +130,26 @@ pub record NotesOp (o : Op) (new : TouchedLists) : Type 0 where
   pub said : (u : User) → has_user new.said u ≡ false → touches_said o u ≡ false
   pub uses : (p : TagUser) → has_tag_user new.uses p ≡ false → touches_use o p ≡ false
   pub tag_users : (p : TagUser) → has_tag_user new.tag_users p ≡ false → touches_tag o p ≡ false
+
+-- everything is noted that this row of a user has
+pub record NotesRow (u : User) (r : UserRow) (new : TouchedLists) : Type 0 where
+  pub out : (w : User) → has_pair new.out (pair u w) ≡ false → half_to r.out w ≡ None
+  pub inn : (w : User) → has_pair new.inn (pair u w) ≡ false → half_to r.inn w ≡ None
+  pub mentions : (w : User) → has_pair new.mentions (pair u w) ≡ false → has_user r.mentions w ≡ false
+  pub mentioners : (w : User) → has_pair new.mentioners (pair u w) ≡ false → has_user r.mentioners w ≡ false
+  pub said : has_user new.said u ≡ true
+  pub uses : (t : List ℕ) → has_tag_user new.uses (tag_user t u) ≡ false → use_of r.uses t ≡ None
+
+-- these users of a tag are among the noted ones
+abbrev pub NotesUsers : List ℕ → List User → List TagUser → Type 0
+NotesUsers t users notes = (u : User) → has_tag_user notes (tag_user t u) ≡ false → has_user users u ≡ false
+
+-- everything is noted that a part has
+pub record NotesAll (v : PartView) (new : TouchedLists) : Type 0 where
+  pub out : (p : Pair) → has_pair new.out p ≡ false → pair_in v.out p ≡ None
+  pub inn : (p : Pair) → has_pair new.inn p ≡ false → pair_in v.inn p ≡ None
+  pub mentions : (p : Pair) → has_pair new.mentions p ≡ false → has_user (v.mentions p.user) p.other ≡ false
+  pub mentioners : (p : Pair) → has_pair new.mentioners p ≡ false → has_user (v.mentioners p.user) p.other ≡ false
+  pub said : (u : User) → has_user new.said u ≡ false → v.said u ≡ 0
+  pub uses : (p : TagUser) → has_tag_user new.uses p ≡ false → use_of (v.uses p.user) p.tag ≡ None
+  pub tag_users : (p : TagUser) → has_tag_user new.tag_users p ≡ false → has_user (v.tag_users p.tag) p.user ≡ false

@@ -8,7 +8,8 @@ use Rattle.kin_graph.specs.Rows.{is_none}
 
 -- a user in a follow edge ever added, in a mention edge or in a use
 abbrev pub is_vertex : PartView → User → Bool
-is_vertex v u = not (((is_none (v.out u) && is_none (v.inn u)) && (is_none (v.mentions u) && is_none (v.mentioners u))) && is_none (v.uses u))
+is_vertex v u = not (((is_none (v.out u) && is_none (v.inn u)) && (is_none (v.mentions u) && is_none (v.mentioners u)))
+    && is_none (v.uses u))
 
 -- a tag that somebody has used
 abbrev pub is_in_use : PartView → List ℕ → Bool

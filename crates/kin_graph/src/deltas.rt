@@ -57,7 +57,19 @@ impl Model for Lists {
 
     ghost Value = { DeltaLists };
 
-    ghost view = { λ a. record { new_out = a.out.added; new_in = a.inn.added; now_out = a.out.present; now_in = a.inn.present; gone_out = a.out.gone; gone_in = a.inn.gone; mention_out = a.mention_out; mention_in = a.mention_in; said = a.said; uses = a.uses; tag_users = a.tag_users } };
+    ghost view = { λ a. record {
+      new_out = a.out.added;
+      new_in = a.inn.added;
+      now_out = a.out.present;
+      now_in = a.inn.present;
+      gone_out = a.out.gone;
+      gone_in = a.inn.gone;
+      mention_out = a.mention_out;
+      mention_in = a.mention_in;
+      said = a.said;
+      uses = a.uses;
+      tag_users = a.tag_users;
+    } };
 }
 
 /// What differs between two versions of one partition's part, as lists without a stated order, each member once. Equal

@@ -7,9 +7,9 @@ ghost use Rattle.kin_store.specs.Pairs.{pair_cmp, tag_user_cmp};
 ghost use Rattle.kin_store.specs.State.{row_of, users_of, view_of};
 ghost use Rattle.kin_store.specs.Changes.{kept};
 ghost use Rattle.kin_store.specs.Hints.{IsIndexed, Precedes};
-ghost use Rattle.kin_graph.specs.Deltas.{is_met, is_present, new_use, one_if, pair_in, use_of, IsDelta};
-ghost use Rattle.kin_graph.specs.Gathered.{also_told, in_changes, out_changes, IsFilled, IsNoted};
-ghost use Rattle.kin_graph.specs.Gathered.{new_mentioners, new_mentions, new_tag_users, new_uses, said_more};
+ghost use Rattle.kin_graph.specs.Deltas.{is_met, is_present, new_use, one_if, pair_in, use_of, HasAll, IsDelta};
+ghost use Rattle.kin_graph.specs.Gathered.{also_told, changes_on, mentions_on, IsFilled, IsNoted};
+ghost use Rattle.kin_graph.specs.Gathered.{halves_on, new_tag_users, new_uses, said_more, users_on};
 ghost use Rattle.kin_graph.specs.Touches.{IsTouched};
 
 use crate::deltas::{Delta, HalfChanges, Lists, Pairs, SaidRow, UseRow};
@@ -17,7 +17,6 @@ use crate::part_graphs::PartGraph;
 use crate::touched::Touched;
 use kin_ids::{Half, ListOf, Memory, Use, User};
 use kin_store::{Index, Pair, PartSnap, TagUser};
-use std::alloc::Global;
 use std::collections::BTreeSet;
 
 impl PartGraph {
@@ -28,119 +27,123 @@ impl PartGraph {
         requires stays { Precedes (kept old.now) (kept self.now) }
         ensures { IfOk result (λ d. IsDelta (view_of old.now) (view_of self.now) d) }
     {
-        let alloc = self.current.alloc();
-        let lists = told(alloc, old, &self.current, &self.index, touched)?;
-        Delta::of(alloc, lists)
+        let is = &self.current;
+        let lists = told(old, &self.index, is, &self.index, touched)?;
+        Delta::of(is.alloc(), lists)
+    }
+}
+
+/// What differs between two versions of one partition's part, where the later one has all that the earlier one has,
+/// whether or not one was made of the other. O(n log n) for the n items of the later one; `difference` looks only at
+/// what was touched.
+pub fn delta(old: &PartGraph, new: &PartGraph) -> Result<Delta, Memory>
+    requires { HasAll (view_of old.now) (view_of new.now) }
+    ensures { IfOk result (λ d. IsDelta (view_of old.now) (view_of new.now) d) }
+{
+    let was = &old.current;
+    let is = &new.current;
+    let mut all = Touched::new(is.alloc());
+    all.note_all(is)?;
+    let lists = told(was, &old.index, is, &new.index, &all)?;
+    Delta::of(is.alloc(), lists)
+}
+
+// A side of a user's row: whom it follows and mentions, or who follows and mentions it.
+#[derive(Clone, Copy)]
+enum Side {
+    Out,
+    In,
+}
+
+impl Side {
+    // The half of a pair on this side.
+    fn half(self, snap: &PartSnap, index: &Index, pair: Pair) -> Option<Half>
+        requires { IsIndexed (kept snap.now) index.now }
+        ensures { result ≡ pair_in (halves_on self (view_of snap.now)) pair }
+    {
+        match self {
+            Side::Out => snap.out_half(index, pair),
+            Side::In => snap.in_half(index, pair),
+        }
+    }
+
+    // Whether the pair's other user is mentioned on this side.
+    fn mentions(self, snap: &PartSnap, index: &Index, pair: Pair) -> bool
+        requires { IsIndexed (kept snap.now) index.now }
+        ensures { result ≡ has_user (users_on self (view_of snap.now) pair.user) pair.other }
+    {
+        match self {
+            Side::Out => snap.mentions_user(index, pair),
+            Side::In => snap.mentioned_by(index, pair),
+        }
     }
 }
 
 // What is told of everything that was touched.
 fn told(
-    alloc: Global,
     was: &PartSnap,
+    was_index: &Index,
     is: &PartSnap,
     index: &Index,
     touched: &Touched,
 ) -> Result<Lists, Memory>
-    requires was { IsIndexed (kept was.now) index.now }
+    requires was { IsIndexed (kept was.now) was_index.now }
     requires is { IsIndexed (kept is.now) index.now }
     ensures noted { OnOk result (IsNoted touched.now) }
     ensures filled { IfOk result (λ d. IsFilled touched.now (view_of was.now) (view_of is.now) d) }
 {
     Ok(Lists {
-        out: out_changes(alloc, was, is, index, &touched.out)?,
-        inn: in_changes(alloc, was, is, index, &touched.inn)?,
-        mention_out: new_mentions(alloc, was, is, index, &touched.mentions)?,
-        mention_in: new_mentioners(alloc, was, is, index, &touched.mentioners)?,
-        said: said_more(alloc, was, is, &touched.said)?,
-        uses: new_uses(alloc, was, is, index, &touched.uses)?,
-        tag_users: new_tag_users(alloc, was, is, index, &touched.tag_users)?,
+        out: half_changes(Side::Out, was, was_index, is, index, &touched.out)?,
+        inn: half_changes(Side::In, was, was_index, is, index, &touched.inn)?,
+        mention_out: new_mentions(Side::Out, was, was_index, is, index, &touched.mentions)?,
+        mention_in: new_mentions(Side::In, was, was_index, is, index, &touched.mentioners)?,
+        said: said_more(was, is, &touched.said)?,
+        uses: new_uses(was, was_index, is, index, &touched.uses)?,
+        tag_users: new_tag_users(was, was_index, is, index, &touched.tag_users)?,
     })
 }
 
-// What changed of the follow halves out of users.
-fn out_changes(
-    alloc: Global,
+// What changed of the follow halves on a side of users.
+fn half_changes(
+    side: Side,
     was: &PartSnap,
+    was_index: &Index,
     is: &PartSnap,
     index: &Index,
     touched: &BTreeSet<Pair>,
 ) -> Result<HalfChanges, Memory>
-    requires was { IsIndexed (kept was.now) index.now }
+    requires was { IsIndexed (kept was.now) was_index.now }
     requires is { IsIndexed (kept is.now) index.now }
     ensures ordered { IsStrictlySortedBy pair_cmp touched.now.keys }
-    ensures told { IfOk result (λ c. c ≡ out_changes (view_of was.now) (view_of is.now) touched.now.keys) }
+    ensures told { IfOk result (λ c. c ≡ changes_on side (view_of was.now) (view_of is.now) touched.now.keys) }
 {
-    let mut changes = HalfChanges::none(alloc);
+    let mut changes = HalfChanges::none(is.alloc());
     for pair in touched.iter() {
-        let before = was.out_half(index, *pair);
-        let after = is.out_half(index, *pair);
+        let before = side.half(was, was_index, *pair);
+        let after = side.half(is, index, *pair);
         changes.tell(*pair, before, after)?;
     }
     Ok(changes)
 }
 
-// What changed of the follow halves into users.
-fn in_changes(
-    alloc: Global,
-    was: &PartSnap,
-    is: &PartSnap,
-    index: &Index,
-    touched: &BTreeSet<Pair>,
-) -> Result<HalfChanges, Memory>
-    requires was { IsIndexed (kept was.now) index.now }
-    requires is { IsIndexed (kept is.now) index.now }
-    ensures ordered { IsStrictlySortedBy pair_cmp touched.now.keys }
-    ensures told { IfOk result (λ c. c ≡ in_changes (view_of was.now) (view_of is.now) touched.now.keys) }
-{
-    let mut changes = HalfChanges::none(alloc);
-    for pair in touched.iter() {
-        let before = was.in_half(index, *pair);
-        let after = is.in_half(index, *pair);
-        changes.tell(*pair, before, after)?;
-    }
-    Ok(changes)
-}
-
-// The users who mention somebody whom they didn't.
+// The users who mention somebody whom they didn't, or whom somebody mentions who didn't.
 fn new_mentions(
-    alloc: Global,
+    side: Side,
     was: &PartSnap,
+    was_index: &Index,
     is: &PartSnap,
     index: &Index,
     touched: &BTreeSet<Pair>,
 ) -> Result<Pairs, Memory>
-    requires was { IsIndexed (kept was.now) index.now }
+    requires was { IsIndexed (kept was.now) was_index.now }
     requires is { IsIndexed (kept is.now) index.now }
     ensures ordered { IsStrictlySortedBy pair_cmp touched.now.keys }
-    ensures told { IfOk result (λ ps. ps ≡ new_mentions (view_of was.now) (view_of is.now) touched.now.keys) }
+    ensures told { IfOk result (λ ps. ps ≡ mentions_on side (view_of was.now) (view_of is.now) touched.now.keys) }
 {
-    let mut pairs = ListOf::new(alloc);
+    let mut pairs = ListOf::new(is.alloc());
     for pair in touched.iter() {
-        let before = was.mentions_user(index, *pair);
-        let after = is.mentions_user(index, *pair);
-        put_if(&mut pairs, came(before, after), *pair)?;
-    }
-    Ok(pairs)
-}
-
-// The users whom somebody mentions who didn't.
-fn new_mentioners(
-    alloc: Global,
-    was: &PartSnap,
-    is: &PartSnap,
-    index: &Index,
-    touched: &BTreeSet<Pair>,
-) -> Result<Pairs, Memory>
-    requires was { IsIndexed (kept was.now) index.now }
-    requires is { IsIndexed (kept is.now) index.now }
-    ensures ordered { IsStrictlySortedBy pair_cmp touched.now.keys }
-    ensures told { IfOk result (λ ps. ps ≡ new_mentioners (view_of was.now) (view_of is.now) touched.now.keys) }
-{
-    let mut pairs = ListOf::new(alloc);
-    for pair in touched.iter() {
-        let before = was.mentioned_by(index, *pair);
-        let after = is.mentioned_by(index, *pair);
+        let before = side.mentions(was, was_index, *pair);
+        let after = side.mentions(is, index, *pair);
         put_if(&mut pairs, came(before, after), *pair)?;
     }
     Ok(pairs)
@@ -148,7 +151,6 @@ fn new_mentioners(
 
 // By how much the numbers of items that mention users grew.
 fn said_more(
-    alloc: Global,
     was: &PartSnap,
     is: &PartSnap,
     touched: &BTreeSet<User>,
@@ -156,7 +158,7 @@ fn said_more(
     ensures ordered { IsStrictlySortedBy user_cmp touched.now.keys }
     ensures told { IfOk result (λ rs. rs ≡ said_more (view_of was.now) (view_of is.now) touched.now.keys) }
 {
-    let mut rows = ListOf::new(alloc);
+    let mut rows = ListOf::new(is.alloc());
     for user in touched.iter() {
         let before = was.row(*user).said();
         let after = is.row(*user).said();
@@ -171,20 +173,20 @@ fn said_more(
 
 // The tags that users have used and hadn't.
 fn new_uses(
-    alloc: Global,
     was: &PartSnap,
+    was_index: &Index,
     is: &PartSnap,
     index: &Index,
     touched: &BTreeSet<TagUser>,
 ) -> Result<ListOf<UseRow>, Memory>
-    requires was { IsIndexed (kept was.now) index.now }
+    requires was { IsIndexed (kept was.now) was_index.now }
     requires is { IsIndexed (kept is.now) index.now }
     ensures ordered { IsStrictlySortedBy tag_user_cmp touched.now.keys }
     ensures told { IfOk result (λ rs. rs ≡ new_uses (view_of was.now) (view_of is.now) touched.now.keys) }
 {
-    let mut rows = ListOf::new(alloc);
+    let mut rows = ListOf::new(is.alloc());
     for used in touched.iter() {
-        let before = was.first_use(index, used.user, used.tag);
+        let before = was.first_use(was_index, used.user, used.tag);
         let after = is.first_use(index, used.user, used.tag);
         put_use(&mut rows, used.user, before, after)?;
     }
@@ -193,20 +195,20 @@ fn new_uses(
 
 // The users who have used a tag and hadn't.
 fn new_tag_users(
-    alloc: Global,
     was: &PartSnap,
+    was_index: &Index,
     is: &PartSnap,
     index: &Index,
     touched: &BTreeSet<TagUser>,
 ) -> Result<ListOf<TagUser>, Memory>
-    requires was { IsIndexed (kept was.now) index.now }
+    requires was { IsIndexed (kept was.now) was_index.now }
     requires is { IsIndexed (kept is.now) index.now }
     ensures ordered { IsStrictlySortedBy tag_user_cmp touched.now.keys }
     ensures told { IfOk result (λ rs. rs ≡ new_tag_users (view_of was.now) (view_of is.now) touched.now.keys) }
 {
-    let mut rows = ListOf::new(alloc);
+    let mut rows = ListOf::new(is.alloc());
     for used in touched.iter() {
-        let before = was.has_tag_user(index, used.tag, used.user);
+        let before = was.has_tag_user(was_index, used.tag, used.user);
         let after = is.has_tag_user(index, used.tag, used.user);
         put_if(&mut rows, came(before, after), *used)?;
     }

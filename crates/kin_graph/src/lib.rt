@@ -4,6 +4,7 @@
 pub mod deltas;
 pub mod differences;
 pub mod laws;
+mod notes;
 pub mod part_graphs;
 mod part_views;
 pub mod ticks;
@@ -11,6 +12,7 @@ pub mod touched;
 pub mod views;
 
 pub use deltas::{Delta, SaidRow, UseRow};
+pub use differences::delta;
 use kin_ids::ListOf;
 pub use kin_ids::{Half, Use};
 pub use kin_store::{Halves, Index, Pair, PartSnap, Row, TagUser, UseList, Users};

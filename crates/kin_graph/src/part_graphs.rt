@@ -57,8 +57,8 @@ impl PartGraph {
         &self.current
     }
 
-    /// An equal one, for a second writer. It shares the store, and copies the index: O(n) for n items past the first 16 of
-    /// each list.
+    /// An equal one, for a second writer. It shares the store, and copies the index: O(n) for n items past the first 16
+    /// of each list.
     pub fn copy(&self) -> Result<PartGraph, Memory>
         ensures { IfOk result (λ g. g ≡ self.now) }
     {
@@ -68,8 +68,8 @@ impl PartGraph {
         })
     }
 
-    /// Applies a piece of an epoch. O(log n) per operation, and a copy of what is shared and written. After `Memory` the store
-    /// is the one from before, which was shared.
+    /// Applies a piece of an epoch. O(log n) per operation, and a copy of what is shared and written. After `Memory`
+    /// the store is the one from before, which was shared.
     pub fn apply(&mut self, epoch: Epoch, piece: &Piece) -> Result<(), Memory>
         requires part { piece.now.part.0 ≡ self.old.part }
         requires home { All (λ x. op_part self.old.parts x.op ≡ self.old.part) piece.now.ops }
@@ -89,8 +89,9 @@ impl PartGraph {
         Ok(())
     }
 
-    /// Applies a piece of an epoch. O(log n) per operation, and a copy of what is shared and written. After `Memory` some of the
-    /// operations are done, each of them wholly or not: let go of it then, or `restore` a store that was shared before.
+    /// Applies a piece of an epoch. O(log n) per operation, and a copy of what is shared and written. After `Memory`
+    /// some of the operations are done, each of them wholly or not: let go of it then, or `restore` a store that was
+    /// shared before.
     pub fn apply_some(&mut self, epoch: Epoch, piece: &Piece) -> Result<(), Memory>
         requires part { piece.now.part.0 ≡ self.old.part }
         requires home { All (λ x. op_part self.old.parts x.op ≡ self.old.part) piece.now.ops }

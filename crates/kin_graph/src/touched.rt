@@ -32,7 +32,15 @@ impl Model for Touched {
 
     ghost Value = { TouchedLists };
 
-    ghost view = { λ a. record { out = a.out.keys; inn = a.inn.keys; mentions = a.mentions.keys; mentioners = a.mentioners.keys; said = a.said.keys; uses = a.uses.keys; tag_users = a.tag_users.keys } };
+    ghost view = { λ a. record {
+      out = a.out.keys;
+      inn = a.inn.keys;
+      mentions = a.mentions.keys;
+      mentioners = a.mentioners.keys;
+      said = a.said.keys;
+      uses = a.uses.keys;
+      tag_users = a.tag_users.keys;
+    } };
 }
 
 impl Touched {
@@ -111,7 +119,8 @@ impl Touched {
     }
 }
 
-fn put_pair(pairs: &mut BTreeSet<Pair>, user: User, other: User) -> Result<(), Memory>
+/// Notes one more.
+pub(crate) fn put_pair(pairs: &mut BTreeSet<Pair>, user: User, other: User) -> Result<(), Memory>
     ensures kept { (p : Pair) → has_pair pairs.new.keys p ≡ false → has_pair pairs.old.keys p ≡ false }
     ensures ok { OnOk result ((p : Pair) → has_pair pairs.new.keys p ≡ false → same_pair (pair user other) p ≡ false) }
 {
@@ -119,7 +128,8 @@ fn put_pair(pairs: &mut BTreeSet<Pair>, user: User, other: User) -> Result<(), M
     Ok(())
 }
 
-fn put_user(users: &mut BTreeSet<User>, user: User) -> Result<(), Memory>
+/// Notes one more.
+pub(crate) fn put_user(users: &mut BTreeSet<User>, user: User) -> Result<(), Memory>
     ensures kept { (u : User) → has_user users.new.keys u ≡ false → has_user users.old.keys u ≡ false }
     ensures ok { OnOk result ((u : User) → has_user users.new.keys u ≡ false → same_user user u ≡ false) }
 {
@@ -127,7 +137,12 @@ fn put_user(users: &mut BTreeSet<User>, user: User) -> Result<(), Memory>
     Ok(())
 }
 
-fn put_tag_user(pairs: &mut BTreeSet<TagUser>, tag: Tag, user: User) -> Result<(), Memory>
+/// Notes one more.
+pub(crate) fn put_tag_user(
+    pairs: &mut BTreeSet<TagUser>,
+    tag: Tag,
+    user: User,
+) -> Result<(), Memory>
     ensures kept { (p : TagUser) → has_tag_user pairs.new.keys p ≡ false → has_tag_user pairs.old.keys p ≡ false }
     ensures ok { OnOk result ((p : TagUser) → has_tag_user pairs.new.keys p ≡ false →
         same_tag_user (tag_user tag user) p ≡ false) }

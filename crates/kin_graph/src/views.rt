@@ -28,7 +28,8 @@ pub trait View {
     /// The tags in use, ascending.
     fn tags(&self) -> Result<Vec<Tag>, Memory>
         ensures ascend { IfOk result (λ ts. IsStrictlySortedBy tag_cmp ts.items) }
-        ensures in_use { IfOk result (λ ts. (t : List ℕ) → list_any (same_tag t) ts.items ≡ is_in_use (seen self.now) t) };
+        ensures in_use { IfOk result (λ ts. (t : List ℕ)
+            → list_any (same_tag t) ts.items ≡ is_in_use (seen self.now) t) };
 
     /// Whether the user stands in a follow edge ever added, in a mention edge or in a use.
     fn is_vertex(&self, u: User) -> bool

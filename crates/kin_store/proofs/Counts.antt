@@ -15,7 +15,8 @@ use Rattle.kin_store.proofs.Preceding.{indexed-empty}
 use Rattle.kin_store.proofs.Empties.{empty-row}
 use Rattle.kin_store.proofs.Orders.{user_exact}
 
-said-row : (k : Kept) (u : User) (r : UserRow) → r.said ≤ (k.row u).said + 1 → (q : User) → ((with_row k u r).row q).said ≤ (k.row q).said + 1
+said-row : (k : Kept) (u : User) (r : UserRow) → r.said ≤ (k.row u).said + 1 → (q : User) → ((with_row k u r).row q).said
+    ≤ (k.row q).said + 1
 said-row k u r h q = by_test (same_user u q) refl where
   by_test : (b : Bool) → same_user u q ≡ b → (if b then r else k.row q).said ≤ (k.row q).said + 1
   by_test true t = subst (λ (v : User). r.said ≤ (k.row v).said + 1) (user_exact u q ((Equal-is (user_cmp u q)).0 t)) h
@@ -51,16 +52,20 @@ pub one-here : (part parts : ℕ) (o : Op) → part ≡ 0 → parts ≡ 1 → op
 one-here part parts o zero one = ap (λ (n : ℕ). op_part n o) one ∙ (one-home o ∙ sym zero)
 
 -- after one operation more, counts are at most one more
-pub few-done : (s t : PartState) (at : Place) (o : Op) (n : ℕ) → kept t ≡ done at (kept s) o → ((u : User) → (row_of s u).said ≤ n) → (u : User) → (row_of t u).said ≤ n + 1
+pub few-done : (s t : PartState) (at : Place) (o : Op) (n : ℕ) → kept t ≡ done at (kept s) o → ((u : User) → (row_of s u).said ≤ n)
+    → (u : User) → (row_of t u).said ≤ n + 1
 few-done s t at o n e h u = omega (arith, ap (λ (k : Kept). (k.row u).said) e, said-done at (kept s) o u, h u)
 
-pub few-said : (s : PartState) (at : Place) (o : Op) (n : ℕ) → n < 2 ^ 32 → ((u : User) → (row_of s u).said ≤ n) → (u : User) → ((done at (kept s) o).row u).said < 2 ^ 64
+pub few-said : (s : PartState) (at : Place) (o : Op) (n : ℕ) → n < 2 ^ 32 → ((u : User) → (row_of s u).said ≤ n) → (u : User)
+    → ((done at (kept s) o).row u).said < 2 ^ 64
 few-said s at o n small h u = omega (arith, said-done at (kept s) o u, h u, small)
 
 -- an empty store of the only partition, and an index that knows nothing
-pub written-none : (s : PartState) (x : IndexView) → s ≡ empty_part 0 1 → x ≡ empty_index → IsIndexed (kept s) x × (((s.part ≡ 0) × (s.parts ≡ 1)) × ((u : User) → (row_of s u).said ≤ 0))
+pub written-none : (s : PartState) (x : IndexView) → s ≡ empty_part 0 1 → x ≡ empty_index → IsIndexed (kept s) x
+    × (((s.part ≡ 0) × (s.parts ≡ 1)) × ((u : User) → (row_of s u).said ≤ 0))
 written-none s x e f = (
-  subst (λ (t : PartState). IsIndexed (kept t) x) (sym e) (subst (λ (y : IndexView). IsIndexed (kept (empty_part 0 1)) y) (sym f) (indexed-empty 0 1)),
+  subst (λ (t : PartState). IsIndexed (kept t) x) (sym e) (subst (λ (y : IndexView). IsIndexed (kept (empty_part 0 1)) y) (sym f)
+      (indexed-empty 0 1)),
   (
     (ap (λ (t : PartState). t.part) e, ap (λ (t : PartState). t.parts) e),
     λ u. omega (arith, ap (λ (t : PartState). (row_of t u).said) e, ap (λ (r : UserRow). r.said) (empty-row 0 1 u)),

@@ -23,7 +23,8 @@ module _ (part parts n : ℕ) (bs : List BlockState) (e : bs ≡ replicate n emp
   at m = omega (arith, long, mod_less m (length bs) (omega (arith, long, some)))
 
   each : (m : ℕ) → block_at (record { part = part; parts = parts; blocks = bs }) (m % length bs) ≡ empty_block
-  each m = ap (λ (l : List BlockState). block_at (record { part = part; parts = parts; blocks = l }) (m % length bs)) e ∙ get_or-replicate n (m % length bs) empty_block empty_block (at m)
+  each m = ap (λ (l : List BlockState). block_at (record { part = part; parts = parts; blocks = l }) (m % length bs)) e
+      ∙ get_or-replicate n (m % length bs) empty_block empty_block (at m)
 
   pub no-row : (u : User) → row_of (record { part = part; parts = parts; blocks = bs }) u ≡ no_row
   no-row u = ap (λ (x : BlockState). row_in x u) (each (u.0 / parts))

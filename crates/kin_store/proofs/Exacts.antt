@@ -15,12 +15,18 @@ both_equal Less b e = absurd cc
 both_equal Equal b e = (refl, e)
 both_equal Greater b e = absurd cc
 
-pub pair_exact : (p q : Pair) → same_pair p q ≡ true → p ≡ q
-pair_exact p q t =
-    let both = both_equal (user_cmp p.user q.user) (user_cmp p.other q.other) ((Equal-is (pair_cmp p q)).0 t) in
+pub pair_exact : (p q : Pair) → pair_cmp p q ≡ Equal → p ≡ q
+pair_exact p q e =
+    let both = both_equal (user_cmp p.user q.user) (user_cmp p.other q.other) e in
     λ i. record { user = user_exact p.user q.user both.0 i; other = user_exact p.other q.other both.1 i }
 
-pub tag_user_exact : (p q : TagUser) → same_tag_user p q ≡ true → p ≡ q
-tag_user_exact p q t =
-    let both = both_equal (tag_cmp p.tag q.tag) (user_cmp p.user q.user) ((Equal-is (tag_user_cmp p q)).0 t) in
+pub pair_same : (p q : Pair) → same_pair p q ≡ true → p ≡ q
+pair_same p q t = pair_exact p q ((Equal-is (pair_cmp p q)).0 t)
+
+pub tag_user_exact : (p q : TagUser) → tag_user_cmp p q ≡ Equal → p ≡ q
+tag_user_exact p q e =
+    let both = both_equal (tag_cmp p.tag q.tag) (user_cmp p.user q.user) e in
     λ i. record { tag = tag_exact p.tag q.tag both.0 i; user = user_exact p.user q.user both.1 i }
+
+pub tag_user_same : (p q : TagUser) → same_tag_user p q ≡ true → p ≡ q
+tag_user_same p q t = tag_user_exact p q ((Equal-is (tag_user_cmp p q)).0 t)

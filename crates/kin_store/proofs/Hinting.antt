@@ -1,18 +1,11 @@
 -- Where the first item that passes a test stands, by a scan of the first items and a hint.
-use Rattle.std.proofs.Common.{◌≡◌, ℕ, ◌+◌, ◌<◌, ◌≤◌, Bool, true, false, cond, List, [], ◌∷◌, Option, Some, None, is_some, length, take, drop, get_or, position, refl, sym, ap, ◌∙◌, subst, arith}
+use Rattle.std.proofs.Common.{◌≡◌, ℕ, ◌<◌, ◌≤◌, Bool, true, false, List, Option, Some, None, is_some, length, take}
+use Rattle.std.proofs.Common.{drop, get_or, position, refl, sym, ap, ◌∙◌, subst, arith}
 use Rattle.std.specs.List.{position_from}
 use Rattle.std.proofs.lemmas.List.{take-append-drop, length-take}
 use Rattle.std.proofs.lemmas.List.Folds.{list_any_at}
 use Rattle.std.proofs.lemmas.List.Quantifiers.{position-Some}
-use Rattle.kin_store.proofs.Places.{or_else, position-append, position-below, list_any-position}
-
-above_cond : (b : Bool) (k i : ℕ) (a : Option ℕ) → cond b (Some k) a ≡ Some i → (a ≡ Some i → k + 1 ≤ i) → k ≤ i
-above_cond true k i a e h = let same : k ≡ i = cc in omega (arith, same)
-above_cond false k i a e h = omega (arith, h e)
-
-from_above : {X : Type 0} (p : X → Bool) (k : ℕ) (xs : List X) (i : ℕ) → position_from p k xs ≡ Some i → k ≤ i
-from_above p k [] i e = cc
-from_above p k (x ∷ xs) i e = above_cond (p x) k i (position_from p (k + 1) xs) e (from_above p (k + 1) xs i)
+use Rattle.kin_store.proofs.Places.{or_else, from_above, position-append, position-below, list_any-position}
 
 module _ {X : Type 0} (p : X → Bool) (xs : List X) where
   split : (n : ℕ) → position p xs ≡ or_else (position p (take n xs)) (position_from p (length (take n xs)) (drop n xs))
@@ -35,7 +28,8 @@ module _ {X : Type 0} (p : X → Bool) (xs : List X) where
   there_is None e = absurd cc
   there_is (Some j) e = (j, refl)
 
-  module _ (n : ℕ) (hint : Option ℕ) (right : (i : ℕ) → n ≤ i → position p xs ≡ Some i → hint ≡ Some i) (none : position p (take n xs) ≡ None) where
+  module _ (n : ℕ) (hint : Option ℕ) (right : (i : ℕ) → n ≤ i → position p xs ≡ Some i → hint ≡ Some i)
+      (none : position p (take n xs) ≡ None) where
     pub hint-yes : (at : ℕ) (d : X) → hint ≡ Some at → at < length xs → p (get_or xs at d) ≡ true → Some at ≡ position p xs
     hint-yes at d is within so =
         let some : is_some (position p xs) ≡ true = sym (list_any-position p xs) ∙ list_any_at p xs at d within so in

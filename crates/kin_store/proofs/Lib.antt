@@ -9,7 +9,7 @@ mod Paging
 mod Puts
 mod Sets
 pub mod Empties
-mod Exacts
+pub mod Exacts
 mod Indexing
 mod Gathering
 pub mod Preceding

@@ -32,9 +32,11 @@ unwrap_cond false w a d = refl
 -- a map that has w at k, and at each other key what it had
 module _ {K X : Type 0} {R : K → K → Ordering} (exact : (x y : K) → R x y ≡ Equal → x ≡ y) (es fs : List (K × X)) (k : K) (w : Option X)
     (puts : (q : K) → lookup (is_at (R q)) fs ≡ cond (is_at (R k) q) w (lookup (is_at (R q)) es)) where
-  pub value-put : (d x : X) → unwrap_or w d ≡ x → (q : K) → unwrap_or (lookup (is_at (R q)) fs) d ≡ (if is_at (R k) q then x else unwrap_or (lookup (is_at (R q)) es) d)
+  pub value-put : (d x : X) → unwrap_or w d ≡ x → (q : K) → unwrap_or (lookup (is_at (R q)) fs) d
+      ≡ (if is_at (R k) q then x else unwrap_or (lookup (is_at (R q)) es) d)
   value-put d x e q =
-      ap (λ a. unwrap_or a d) (puts q) ∙ (unwrap_cond (is_at (R k) q) w (lookup (is_at (R q)) es) d ∙ ap (λ (y : X). if is_at (R k) q then y else unwrap_or (lookup (is_at (R q)) es) d) e)
+      ap (λ a. unwrap_or a d) (puts q) ∙ (unwrap_cond (is_at (R k) q) w (lookup (is_at (R q)) es) d
+      ∙ ap (λ (y : X). if is_at (R k) q then y else unwrap_or (lookup (is_at (R q)) es) d) e)
 
 -- what holds after an answer, whichever it is
 pub either-result : {X Y : Type 0} (G P Q : Type 0) (r : Result X Y) → OnOk r P → OnErr r Q → (P → G) → (Q → G) → G

@@ -30,17 +30,20 @@ module _ (ps : List (List BlockState)) (n k : ℕ) (paged : IsPaged ps n) (withi
 
   module _ (new : List BlockState) (others : new ≡ set (get_or ps (k / 64) []) (k % 64) (slot_of new (k % 64))) where
     pub page-set : joined (set ps (k / 64) new) [] ≡ set (joined ps []) k (slot_of new (k % 64))
-    page-set = ap (λ (l : List BlockState). joined (set ps (k / 64) l) []) others ∙ sym (set-chunk ps [] k (k / 64) (k % 64) (slot_of new (k % 64)) paged.full page-there small split)
+    page-set = ap (λ (l : List BlockState). joined (set ps (k / 64) l) []) others
+        ∙ sym (set-chunk ps [] k (k / 64) (k % 64) (slot_of new (k % 64)) paged.full page-there small split)
 
     pub slot-new : slot_of (joined (set ps (k / 64) new) []) k ≡ slot_of new (k % 64)
-    slot-new = ap (λ (l : List BlockState). slot_of l k) page-set ∙ get_or-set_same (joined ps []) k (slot_of new (k % 64)) empty_block within
+    slot-new = ap (λ (l : List BlockState). slot_of l k) page-set
+        ∙ get_or-set_same (joined ps []) k (slot_of new (k % 64)) empty_block within
 
     pub page-others : joined (set ps (k / 64) new) [] ≡ set (joined ps []) k (slot_of (joined (set ps (k / 64) new) []) k)
     page-others = page-set ∙ ap (λ (b : BlockState). set (joined ps []) k b) (sym slot-new)
 
     pub paged-set : IsPaged (set ps (k / 64) new) n
     paged-set = record {
-      full = full-set ps (k / 64) new paged.full (ap length others ∙ (length-set (get_or ps (k / 64) []) (k % 64) (slot_of new (k % 64)) ∙ whole));
+      full = full-set ps (k / 64) new paged.full (ap length others ∙ (length-set (get_or ps (k / 64) []) (k % 64) (slot_of new (k % 64))
+          ∙ whole));
       count = omega (arith, paged.count, length-set ps (k / 64) new);
     }
 
@@ -50,7 +53,8 @@ paged-length ps n paged = omega (arith, joined-length ps [] paged.full, paged.co
 -- pages of empty blocks
 replicate-more : {X : Type 0} (m n : ℕ) (x : X) → replicate m x ++ replicate n x ≡ replicate (m + n) x
 replicate-more zero n x = let e : n ≡ zero + n = omega arith in ap (λ (l : ℕ). replicate l x) e
-replicate-more (suc m) n x = let e : suc (m + n) ≡ suc m + n = omega arith in ap (λ (l : List _). x ∷ l) (replicate-more m n x) ∙ ap (λ (l : ℕ). replicate l x) e
+replicate-more (suc m) n x = let e : suc (m + n) ≡ suc m + n = omega arith in
+    ap (λ (l : List _). x ∷ l) (replicate-more m n x) ∙ ap (λ (l : ℕ). replicate l x) e
 
 pub empty-pages : {X : Type 0} (n : ℕ) (x : X) → joined (replicate n (replicate 64 x)) [] ≡ replicate (64 * n) x
 empty-pages zero x = let e : 0 ≡ 64 * zero = omega arith in ap (λ (l : ℕ). replicate l x) e

@@ -1,5 +1,6 @@
 -- Stores in whose lists each key stands where it stood.
-use Rattle.std.proofs.Common.{◌≡◌, ℕ, Bool, true, false, cond, if◌then◌else◌, List, [], ◌∷◌, Option, Some, None, is_some, length, refl, sym, ap, ◌∙◌, subst}
+use Rattle.std.proofs.Common.{◌≡◌, ℕ, Bool, true, false, cond, if◌then◌else◌, List, [], ◌∷◌, Option, Some, None, is_some, length, refl}
+use Rattle.std.proofs.Common.{sym, ap, ◌∙◌, subst}
 use Rattle.std.specs.Cmp.{Equal-is}
 use Rattle.kin_ids.specs.declared.ids.User.{User}
 use Rattle.kin_ids.specs.declared.stamps.Place.{Place}
@@ -17,7 +18,8 @@ use Rattle.kin_store.specs.State.{empty_part}
 use Rattle.kin_store.specs.Changes.{Kept, kept, with_row, with_users, done, done_all}
 use Rattle.kin_store.specs.Hints.{IndexView, IsIndexed, Precedes, empty_index}
 use Rattle.kin_store.proofs.Orders.{user_exact, tag_exact}
-use Rattle.kin_store.proofs.Placing.{with_half-places, without_half-places, with_member-there, with_first-there, half-push, member-push, first-push}
+use Rattle.kin_store.proofs.Placing.{with_half-places, without_half-places, with_member-there, with_first-there, half-push, member-push}
+use Rattle.kin_store.proofs.Placing.{first-push}
 use Rattle.kin_store.proofs.Indexing.{stay}
 use Rattle.kin_store.proofs.Empties.{empty-row, empty-users}
 
@@ -53,7 +55,8 @@ precedes-indexed k l x a h = record {
 }
 
 -- halves, users and uses stay where they stand
-with_half-stay : (w : User) (at : Place) (xs : List Half) (q : User) (i : ℕ) → half_place xs q ≡ Some i → half_place (with_half w at xs) q ≡ Some i
+with_half-stay : (w : User) (at : Place) (xs : List Half) (q : User) (i : ℕ) → half_place xs q ≡ Some i → half_place (with_half w at xs) q
+    ≡ Some i
 with_half-stay w at xs q i e = by_case (half_place xs w) refl where
   by_case : (o : Option ℕ) → half_place xs w ≡ o → half_place (with_half w at xs) q ≡ Some i
   by_case (Some j) t = with_half-places w at xs j t q ∙ e
@@ -77,7 +80,8 @@ with_member-stay w xs q i e = by_case (user_place xs w) refl where
         absurd cc
     by_test false z = e
 
-with_first-stay : (t : List ℕ) (at : Place) (xs : List Use) (q : List ℕ) (i : ℕ) → use_place xs q ≡ Some i → use_place (with_first t at xs) q ≡ Some i
+with_first-stay : (t : List ℕ) (at : Place) (xs : List Use) (q : List ℕ) (i : ℕ) → use_place xs q ≡ Some i
+    → use_place (with_first t at xs) q ≡ Some i
 with_first-stay t at xs q i e = by_case (use_place xs t) refl where
   by_case : (o : Option ℕ) → use_place xs t ≡ o → use_place (with_first t at xs) q ≡ Some i
   by_case (Some j) h = ap (λ (ys : List Use). use_place ys q) (sym (with_first-there t at xs (ap is_some h))) ∙ e
@@ -117,7 +121,8 @@ UsersStay xs ys = (q : User) (i : ℕ) → user_place xs q ≡ Some i → user_p
 abbrev pub UsesStay : List Use → List Use → Type 0
 UsesStay xs ys = (q : List ℕ) (i : ℕ) → use_place xs q ≡ Some i → use_place ys q ≡ Some i
 
-precedes-row : (k : Kept) (u : User) (r : UserRow) → HalvesStay (k.row u).out r.out → HalvesStay (k.row u).inn r.inn → UsersStay (k.row u).mentions r.mentions
+precedes-row : (k : Kept) (u : User) (r : UserRow) → HalvesStay (k.row u).out r.out → HalvesStay (k.row u).inn r.inn
+    → UsersStay (k.row u).mentions r.mentions
     → UsersStay (k.row u).mentioners r.mentioners → UsesStay (k.row u).uses r.uses → Precedes k (with_row k u r)
 precedes-row k u r out inn mentions mentioners uses = record {
   out = stay half_place (λ x. x.out) k u r out;
@@ -130,14 +135,22 @@ precedes-row k u r out inn mentions mentioners uses = record {
 
 -- an operation puts items at the end, and turns halves
 pub precedes-done : (at : Place) (k : Kept) (o : Op) → Precedes k (done at k o)
-precedes-done at k (op.AddOut u w) = precedes-row k u (row_applied at (k.row u) (op.AddOut u w)) (with_half-stay w at (k.row u).out) (λ q i e. e) (λ q i e. e) (λ q i e. e) (λ q i e. e)
-precedes-done at k (op.AddIn w u) = precedes-row k w (row_applied at (k.row w) (op.AddIn w u)) (λ q i e. e) (with_half-stay u at (k.row w).inn) (λ q i e. e) (λ q i e. e) (λ q i e. e)
-precedes-done at k (op.DropOut u w) = precedes-row k u (row_applied at (k.row u) (op.DropOut u w)) (λ q i e. without_half-places w (k.row u).out q ∙ e) (λ q i e. e) (λ q i e. e) (λ q i e. e) (λ q i e. e)
-precedes-done at k (op.DropIn w u) = precedes-row k w (row_applied at (k.row w) (op.DropIn w u)) (λ q i e. e) (λ q i e. without_half-places u (k.row w).inn q ∙ e) (λ q i e. e) (λ q i e. e) (λ q i e. e)
-precedes-done at k (op.MentionOut u w) = precedes-row k u (row_applied at (k.row u) (op.MentionOut u w)) (λ q i e. e) (λ q i e. e) (with_member-stay w (k.row u).mentions) (λ q i e. e) (λ q i e. e)
-precedes-done at k (op.MentionIn w u) = precedes-row k w (row_applied at (k.row w) (op.MentionIn w u)) (λ q i e. e) (λ q i e. e) (λ q i e. e) (with_member-stay u (k.row w).mentioners) (λ q i e. e)
-precedes-done at k (op.Said w) = precedes-row k w (row_applied at (k.row w) (op.Said w)) (λ q i e. e) (λ q i e. e) (λ q i e. e) (λ q i e. e) (λ q i e. e)
-precedes-done at k (op.Use u t) = precedes-row k u (row_applied at (k.row u) (op.Use u t)) (λ q i e. e) (λ q i e. e) (λ q i e. e) (λ q i e. e) (with_first-stay t at (k.row u).uses)
+precedes-done at k (op.AddOut u w) = precedes-row k u (row_applied at (k.row u) (op.AddOut u w)) (with_half-stay w at (k.row u).out)
+    (λ q i e. e) (λ q i e. e) (λ q i e. e) (λ q i e. e)
+precedes-done at k (op.AddIn w u) = precedes-row k w (row_applied at (k.row w) (op.AddIn w u)) (λ q i e. e)
+    (with_half-stay u at (k.row w).inn) (λ q i e. e) (λ q i e. e) (λ q i e. e)
+precedes-done at k (op.DropOut u w) = precedes-row k u (row_applied at (k.row u) (op.DropOut u w))
+    (λ q i e. without_half-places w (k.row u).out q ∙ e) (λ q i e. e) (λ q i e. e) (λ q i e. e) (λ q i e. e)
+precedes-done at k (op.DropIn w u) = precedes-row k w (row_applied at (k.row w) (op.DropIn w u)) (λ q i e. e)
+    (λ q i e. without_half-places u (k.row w).inn q ∙ e) (λ q i e. e) (λ q i e. e) (λ q i e. e)
+precedes-done at k (op.MentionOut u w) = precedes-row k u (row_applied at (k.row u) (op.MentionOut u w)) (λ q i e. e) (λ q i e. e)
+    (with_member-stay w (k.row u).mentions) (λ q i e. e) (λ q i e. e)
+precedes-done at k (op.MentionIn w u) = precedes-row k w (row_applied at (k.row w) (op.MentionIn w u)) (λ q i e. e) (λ q i e. e)
+    (λ q i e. e) (with_member-stay u (k.row w).mentioners) (λ q i e. e)
+precedes-done at k (op.Said w) = precedes-row k w (row_applied at (k.row w) (op.Said w)) (λ q i e. e) (λ q i e. e) (λ q i e. e) (λ q i e. e)
+    (λ q i e. e)
+precedes-done at k (op.Use u t) = precedes-row k u (row_applied at (k.row u) (op.Use u t)) (λ q i e. e) (λ q i e. e) (λ q i e. e)
+    (λ q i e. e) (with_first-stay t at (k.row u).uses)
 precedes-done at k (op.TagUse t u) = record {
   out = λ p i e. e;
   inn = λ p i e. e;
@@ -151,15 +164,18 @@ pub precedes-done_all : (e i : ℕ) (k : Kept) (xs : List Numbered) → Precedes
 precedes-done_all e i k [] = precedes-refl k
 precedes-done_all e i k (x ∷ xs) =
     let at : Place = record { epoch = record { 0 = e }; ingest = record { 0 = i }; number = x.number } in
-    precedes-trans k (done at k x.op) (done_all e i (done at k x.op) xs) (precedes-done at k x.op) (precedes-done_all e i (done at k x.op) xs)
+    precedes-trans k (done at k x.op) (done_all e i (done at k x.op) xs) (precedes-done at k x.op)
+    (precedes-done_all e i (done at k x.op) xs)
 
 -- an index that knows nothing serves an empty store
 pub indexed-empty : (p n : ℕ) → IsIndexed (kept (empty_part p n)) empty_index
 indexed-empty p n = record {
   out = λ q i f e. let t : None ≡ Some i = sym (ap (λ (r : UserRow). half_place r.out q.other) (empty-row p n q.user)) ∙ e in absurd cc;
   inn = λ q i f e. let t : None ≡ Some i = sym (ap (λ (r : UserRow). half_place r.inn q.other) (empty-row p n q.user)) ∙ e in absurd cc;
-  mentions = λ q i f e. let t : None ≡ Some i = sym (ap (λ (r : UserRow). user_place r.mentions q.other) (empty-row p n q.user)) ∙ e in absurd cc;
-  mentioners = λ q i f e. let t : None ≡ Some i = sym (ap (λ (r : UserRow). user_place r.mentioners q.other) (empty-row p n q.user)) ∙ e in absurd cc;
+  mentions = λ q i f e. let t : None ≡ Some i = sym (ap (λ (r : UserRow). user_place r.mentions q.other) (empty-row p n q.user)) ∙ e in
+      absurd cc;
+  mentioners = λ q i f e. let t : None ≡ Some i = sym (ap (λ (r : UserRow). user_place r.mentioners q.other) (empty-row p n q.user)) ∙ e in
+      absurd cc;
   uses = λ q i f e. let t : None ≡ Some i = sym (ap (λ (r : UserRow). use_place r.uses q.tag) (empty-row p n q.user)) ∙ e in absurd cc;
   users = λ q i f e. let t : None ≡ Some i = sym (ap (λ (us : List User). user_place us q.user) (empty-users p n q.tag)) ∙ e in absurd cc;
 }

@@ -28,17 +28,25 @@ with_row k u r = record k { row = changed k.row u r }
 abbrev pub with_users : Kept → List ℕ → List User → Kept
 with_users k t us = record k { users = changed_tag k.users t us }
 
+-- what an operation at a place does to a user's row
+abbrev pub with_op : Kept → User → Place → Op → Kept
+with_op k u at o = with_row k u (row_applied at (k.row u) o)
+
+-- a tag has one more user, where it hasn't that one yet
+abbrev pub with_user : Kept → List ℕ → User → Kept
+with_user k t u = with_users k t (with_member u (k.users t))
+
 -- what an operation at a place does
 abbrev pub done : Place → Kept → Op → Kept
-done at k (op.AddOut u w) = with_row k u (row_applied at (k.row u) (op.AddOut u w))
-done at k (op.AddIn w u) = with_row k w (row_applied at (k.row w) (op.AddIn w u))
-done at k (op.DropOut u w) = with_row k u (row_applied at (k.row u) (op.DropOut u w))
-done at k (op.DropIn w u) = with_row k w (row_applied at (k.row w) (op.DropIn w u))
-done at k (op.MentionOut u w) = with_row k u (row_applied at (k.row u) (op.MentionOut u w))
-done at k (op.MentionIn w u) = with_row k w (row_applied at (k.row w) (op.MentionIn w u))
-done at k (op.Said w) = with_row k w (row_applied at (k.row w) (op.Said w))
-done at k (op.Use u t) = with_row k u (row_applied at (k.row u) (op.Use u t))
-done at k (op.TagUse t u) = with_users k t (with_member u (k.users t))
+done at k (op.AddOut u w) = with_op k u at (op.AddOut u w)
+done at k (op.AddIn w u) = with_op k w at (op.AddIn w u)
+done at k (op.DropOut u w) = with_op k u at (op.DropOut u w)
+done at k (op.DropIn w u) = with_op k w at (op.DropIn w u)
+done at k (op.MentionOut u w) = with_op k u at (op.MentionOut u w)
+done at k (op.MentionIn w u) = with_op k w at (op.MentionIn w u)
+done at k (op.Said w) = with_op k w at (op.Said w)
+done at k (op.Use u t) = with_op k u at (op.Use u t)
+done at k (op.TagUse t u) = with_user k t u
 
 -- numbered operations of a node in an epoch, in turn
 abbrev pub done_all : ℕ → ℕ → Kept → List Numbered → Kept

@@ -96,7 +96,8 @@ abbrev pub Covers : List (Pair × ℕ) → Pair → ℕ → List (Pair × ℕ) �
 Covers ss p n ts = (q : Pair) (i : ℕ) → few ≤ i → cond (same_pair p q) (Some n) (noted ss q) ≡ Some i → noted ts q ≡ Some i
 
 abbrev pub CoversTag : List (TagUser × ℕ) → TagUser → ℕ → List (TagUser × ℕ) → Type 0
-CoversTag ss p n ts = (q : TagUser) (i : ℕ) → few ≤ i → cond (same_tag_user p q) (Some n) (tag_noted ss q) ≡ Some i → tag_noted ts q ≡ Some i
+CoversTag ss p n ts = (q : TagUser) (i : ℕ) → few ≤ i → cond (same_tag_user p q) (Some n) (tag_noted ss q) ≡ Some i
+    → tag_noted ts q ≡ Some i
 
 -- the place of an operation's item, which isn't there yet, is known
 abbrev pub NotesOp : IndexView → Op → ℕ → IndexView → Type 0
@@ -126,7 +127,9 @@ pub record IsReady (k : Kept) (o : Op) (x : IndexView) : Type 0 where
 pub record Precedes (k l : Kept) : Type 0 where
   pub out : (p : Pair) (i : ℕ) → half_place (k.row p.user).out p.other ≡ Some i → half_place (l.row p.user).out p.other ≡ Some i
   pub inn : (p : Pair) (i : ℕ) → half_place (k.row p.user).inn p.other ≡ Some i → half_place (l.row p.user).inn p.other ≡ Some i
-  pub mentions : (p : Pair) (i : ℕ) → user_place (k.row p.user).mentions p.other ≡ Some i → user_place (l.row p.user).mentions p.other ≡ Some i
-  pub mentioners : (p : Pair) (i : ℕ) → user_place (k.row p.user).mentioners p.other ≡ Some i → user_place (l.row p.user).mentioners p.other ≡ Some i
+  pub mentions : (p : Pair) (i : ℕ) → user_place (k.row p.user).mentions p.other ≡ Some i → user_place (l.row p.user).mentions p.other
+      ≡ Some i
+  pub mentioners : (p : Pair) (i : ℕ) → user_place (k.row p.user).mentioners p.other ≡ Some i → user_place (l.row p.user).mentioners p.other
+      ≡ Some i
   pub uses : (p : TagUser) (i : ℕ) → use_place (k.row p.user).uses p.tag ≡ Some i → use_place (l.row p.user).uses p.tag ≡ Some i
   pub users : (p : TagUser) (i : ℕ) → user_place (k.users p.tag) p.user ≡ Some i → user_place (l.users p.tag) p.user ≡ Some i

@@ -2,9 +2,8 @@
 
 ghost use Rattle.std.specs.Prelude.{◌≡◌, ◌<◌, ◌^◌, IfOk, OnOk, OnErr, [], unwrap_or};
 ghost use Rattle.std.specs.Option.{option_copied};
-ghost use Rattle.kin_ids.specs.Parts.{with_member};
 ghost use Rattle.kin_store.specs.Rows.{row_applied, no_row};
-ghost use Rattle.kin_store.specs.Changes.{kept_in, with_row, with_users};
+ghost use Rattle.kin_store.specs.Changes.{kept_in, with_op, with_user};
 ghost use Rattle.kin_store.specs.Lists.{user_place};
 ghost use Rattle.kin_store.specs.Hints.{row_place};
 ghost use Rattle.kin_store.specs.Blocks.{empty_block, row_in, users_in};
@@ -90,7 +89,7 @@ impl Block {
         requires at { at ≡ row_place (row_in self.old user) op.now }
         requires said { (row_applied place (row_in self.old user) op.now).said < 2 ^ 64 }
         ensures err { OnErr result (self.new ≡ self.old) }
-        ensures ok { OnOk result (kept_in self.new ≡ with_row (kept_in self.old) user (row_applied place (row_in self.old user) op.now)) }
+        ensures ok { OnOk result (kept_in self.new ≡ with_op (kept_in self.old) user place op.now) }
     {
         if let Some(vertex) = self.rows.get_mut(&user) {
             return vertex.apply(place, op, at);
@@ -110,7 +109,7 @@ impl Block {
     ) -> Result<(), Memory>
         requires { at ≡ user_place (users_in self.old tag) user }
         ensures err { OnErr result (self.new ≡ self.old) }
-        ensures ok { OnOk result (kept_in self.new ≡ with_users (kept_in self.old) tag (with_member user (users_in self.old tag))) }
+        ensures ok { OnOk result (kept_in self.new ≡ with_user (kept_in self.old) tag user) }
     {
         if let Some(users) = self.tags.get_mut(&tag) {
             return users.put(user, at);

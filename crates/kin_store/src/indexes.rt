@@ -26,7 +26,14 @@ impl Model for Index {
 
     ghost Value = { IndexView };
 
-    ghost view = { λ a. record { out = a.out.entries; inn = a.inn.entries; mentions = a.mentions.entries; mentioners = a.mentioners.entries; uses = a.uses.entries; users = a.users.entries } };
+    ghost view = { λ a. record {
+      out = a.out.entries;
+      inn = a.inn.entries;
+      mentions = a.mentions.entries;
+      mentioners = a.mentioners.entries;
+      uses = a.uses.entries;
+      users = a.users.entries;
+    } };
 }
 
 // So many items are scanned, and not noted.

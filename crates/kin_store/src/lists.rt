@@ -4,7 +4,8 @@ ghost use Rattle.std.specs.Prelude.{◌≡◌, true, OnOk, OnErr};
 ghost use Rattle.kin_ids.specs.declared.stamps.Place.{Place};
 ghost use Rattle.kin_ids.specs.Users.{has_user, tag_cmp, user_cmp};
 ghost use Rattle.kin_ids.specs.Parts.{with_half, without_half, with_member, with_first};
-ghost use Rattle.kin_store.specs.Lists.{half_key, half_place, half_to, place_of, use_key, use_of, use_place, user_key, user_place};
+ghost use Rattle.kin_store.specs.Lists.{half_key, use_key, user_key, half_to, use_of};
+ghost use Rattle.kin_store.specs.Lists.{half_place, place_of, use_place, user_place};
 ghost use Rattle.kin_store.specs.Turns.{turned};
 ghost use Rattle.kin_store.specs.Hints.{IsHint};
 

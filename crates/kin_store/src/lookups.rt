@@ -1,12 +1,12 @@
 //! How a partition's store is looked into.
 
-ghost use Rattle.std.specs.Prelude.{◌≡◌, IfOk, List, ℕ, not};
+ghost use Rattle.std.specs.Prelude.{◌≡◌, IfOk, List, ℕ, false, not};
 ghost use Rattle.std.specs.List.{list_any};
 ghost use Rattle.std.specs.List.Sorted.{IsStrictlySortedBy};
 ghost use Rattle.kin_ids.specs.declared.ids.User.{User};
 ghost use Rattle.kin_ids.specs.Users.{has_user, same_tag, tag_cmp, user_cmp};
 ghost use Rattle.kin_store.specs.Lists.{half_to, use_of};
-ghost use Rattle.kin_store.specs.Rows.{is_apart, is_none};
+ghost use Rattle.kin_store.specs.Rows.{is_apart, is_none, no_row};
 ghost use Rattle.kin_store.specs.State.{row_of, users_of};
 ghost use Rattle.kin_store.specs.Changes.{kept};
 ghost use Rattle.kin_store.specs.Hints.{IsIndexed};
@@ -26,10 +26,18 @@ impl PartSnap {
         self.store().vertices()
     }
 
+    /// The users of whom something is kept, in no stated order: of each other one nothing is. O(n).
+    pub fn owners(&self) -> Result<Vec<User>, Memory>
+        ensures { IfOk result (λ us. (u : User) → has_user us.items u ≡ false → row_of self.now u ≡ no_row) }
+    {
+        self.store().owners()
+    }
+
     /// The tags that somebody has used, ascending. O(n log n).
     pub fn tags(&self) -> Result<Vec<Tag>, Memory>
         ensures ascend { IfOk result (λ ts. IsStrictlySortedBy tag_cmp ts.items) }
-        ensures in_use { IfOk result (λ ts. (t : List ℕ) → list_any (same_tag t) ts.items ≡ not (is_none (users_of self.now t))) }
+        ensures in_use { IfOk result (λ ts. (t : List ℕ)
+            → list_any (same_tag t) ts.items ≡ not (is_none (users_of self.now t))) }
     {
         self.store().tags()
     }

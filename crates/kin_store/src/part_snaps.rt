@@ -85,9 +85,9 @@ impl PartSnap {
         &self.store
     }
 
-    /// Does what an operation of this partition says. O(log n), and a copy of what is shared and written: a row, the end of one
-    /// of its lists, and pointers to the others; nothing where it changes nothing. The item's place is noted first, so after `Memory` the index may know of an
-    /// item that isn't there, which harms no look-up.
+    /// Does what an operation of this partition says. O(log n), and a copy of what is shared and written: a row, the
+    /// end of one of its lists, and pointers to the others; nothing where it changes nothing. The item's place is noted
+    /// first, so after `Memory` the index may know of an item that isn't there, which harms no look-up.
     pub fn write(&mut self, index: &mut Index, place: Place, op: &Op) -> Result<(), Memory>
         requires indexed { IsIndexed (kept self.old) index.old }
         requires home { op_part self.old.parts op.now ≡ self.old.part }

@@ -13,8 +13,8 @@ use kin_ids::{Memory, Op, Place};
 use std::alloc::{AllocError, Global};
 use std::marker::Model;
 
-/// The follow halves out of a user and into it, whom it mentions and who mentions it, its first uses of tags, and how many
-/// items mention it.
+/// The follow halves out of a user and into it, whom it mentions and who mentions it, its first uses of tags, and how
+/// many items mention it.
 #[derive(Drop)]
 pub struct Row {
     out: Halves,
@@ -30,7 +30,14 @@ impl Model for Row {
 
     ghost Value = { UserRow };
 
-    ghost view = { λ a. record { out = a.out; inn = a.inn; mentions = a.mentions; mentioners = a.mentioners; uses = a.uses; said = a.said } };
+    ghost view = { λ a. record {
+      out = a.out;
+      inn = a.inn;
+      mentions = a.mentions;
+      mentioners = a.mentioners;
+      uses = a.uses;
+      said = a.said;
+    } };
 }
 
 impl Row {
@@ -149,7 +156,8 @@ impl Row {
         }
     }
 
-    /// Does what an operation says of its user, whose item stands there. O(1), and a copy of what is shared and written.
+    /// Does what an operation says of its user, whose item stands there. O(1), and a copy of what is shared and
+    /// written.
     pub(crate) fn apply(&mut self, place: Place, op: &Op, at: Option<usize>) -> Result<(), Memory>
         requires at { at ≡ row_place self.old op.now }
         requires said { (row_applied place self.old op.now).said < 2 ^ 64 }

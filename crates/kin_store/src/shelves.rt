@@ -1,9 +1,8 @@
 //! Blocks that versions share.
 
 ghost use Rattle.std.specs.Prelude.{◌≡◌, ◌<◌, ◌^◌, IfOk, OnOk, OnErr};
-ghost use Rattle.kin_ids.specs.Parts.{with_member};
 ghost use Rattle.kin_store.specs.Rows.{row_applied};
-ghost use Rattle.kin_store.specs.Changes.{kept_in, with_row, with_users};
+ghost use Rattle.kin_store.specs.Changes.{kept_in, with_op, with_user};
 ghost use Rattle.kin_store.specs.Lists.{user_place};
 ghost use Rattle.kin_store.specs.Hints.{row_place};
 ghost use Rattle.kin_store.specs.Blocks.{empty_block, row_in, users_in};
@@ -57,7 +56,7 @@ impl Shelf {
         requires at { at ≡ row_place (row_in self.old user) op.now }
         requires said { (row_applied place (row_in self.old user) op.now).said < 2 ^ 64 }
         ensures err { OnErr result (self.new ≡ self.old) }
-        ensures ok { OnOk result (kept_in self.new ≡ with_row (kept_in self.old) user (row_applied place (row_in self.old user) op.now)) }
+        ensures ok { OnOk result (kept_in self.new ≡ with_op (kept_in self.old) user place op.now) }
     {
         let block = Arc::make_mut(&mut self.block)?;
         block.apply_to_user(user, place, op, at)
@@ -72,7 +71,7 @@ impl Shelf {
     ) -> Result<(), Memory>
         requires { at ≡ user_place (users_in self.old tag) user }
         ensures err { OnErr result (self.new ≡ self.old) }
-        ensures ok { OnOk result (kept_in self.new ≡ with_users (kept_in self.old) tag (with_member user (users_in self.old tag))) }
+        ensures ok { OnOk result (kept_in self.new ≡ with_user (kept_in self.old) tag user) }
     {
         let block = Arc::make_mut(&mut self.block)?;
         block.add_tag_user(tag, user, at)

@@ -1,9 +1,8 @@
 //! A partition's blocks in pages that versions share.
 
 ghost use Rattle.std.specs.Prelude.{◌≡◌, ◌<◌, ◌^◌, IfOk, OnOk, OnErr, length, replicate, slice_set};
-ghost use Rattle.kin_ids.specs.Parts.{with_member};
 ghost use Rattle.kin_store.specs.Rows.{row_applied};
-ghost use Rattle.kin_store.specs.Changes.{kept_in, with_row, with_users};
+ghost use Rattle.kin_store.specs.Changes.{kept_in, with_op, with_user};
 ghost use Rattle.kin_store.specs.Lists.{user_place};
 ghost use Rattle.kin_store.specs.Hints.{row_place};
 ghost use Rattle.kin_store.specs.Blocks.{empty_block, empty_blocks, row_in, slot_of, users_in};
@@ -56,7 +55,8 @@ impl Rack {
         requires said { (row_applied place (row_in (slot_of self.old slot) user) op.now).said < 2 ^ 64 }
         ensures others { self.new ≡ slice_set self.old slot (slot_of self.new slot) }
         ensures err { OnErr result (self.new ≡ self.old) }
-        ensures ok { OnOk result (kept_in (slot_of self.new slot) ≡ with_row (kept_in (slot_of self.old slot)) user (row_applied place (row_in (slot_of self.old slot) user) op.now)) }
+        ensures ok { OnOk result (kept_in (slot_of self.new slot)
+            ≡ with_op (kept_in (slot_of self.old slot)) user place op.now) }
     {
         self.shelves[slot].apply_to_user(user, place, op, at)
     }
@@ -73,7 +73,8 @@ impl Rack {
         requires at { at ≡ user_place (users_in (slot_of self.old slot) tag) user }
         ensures others { self.new ≡ slice_set self.old slot (slot_of self.new slot) }
         ensures err { OnErr result (self.new ≡ self.old) }
-        ensures ok { OnOk result (kept_in (slot_of self.new slot) ≡ with_users (kept_in (slot_of self.old slot)) tag (with_member user (users_in (slot_of self.old slot) tag))) }
+        ensures ok { OnOk result (kept_in (slot_of self.new slot)
+            ≡ with_user (kept_in (slot_of self.old slot)) tag user) }
     {
         self.shelves[slot].add_tag_user(tag, user, at)
     }
@@ -136,7 +137,8 @@ impl Page {
         requires said { (row_applied place (row_in (slot_of self.old slot) user) op.now).said < 2 ^ 64 }
         ensures others { self.new ≡ slice_set self.old slot (slot_of self.new slot) }
         ensures err { OnErr result (self.new ≡ self.old) }
-        ensures ok { OnOk result (kept_in (slot_of self.new slot) ≡ with_row (kept_in (slot_of self.old slot)) user (row_applied place (row_in (slot_of self.old slot) user) op.now)) }
+        ensures ok { OnOk result (kept_in (slot_of self.new slot)
+            ≡ with_op (kept_in (slot_of self.old slot)) user place op.now) }
     {
         let rack = Arc::make_mut(&mut self.rack)?;
         rack.apply_to_user(slot, user, place, op, at)
@@ -154,7 +156,8 @@ impl Page {
         requires at { at ≡ user_place (users_in (slot_of self.old slot) tag) user }
         ensures others { self.new ≡ slice_set self.old slot (slot_of self.new slot) }
         ensures err { OnErr result (self.new ≡ self.old) }
-        ensures ok { OnOk result (kept_in (slot_of self.new slot) ≡ with_users (kept_in (slot_of self.old slot)) tag (with_member user (users_in (slot_of self.old slot) tag))) }
+        ensures ok { OnOk result (kept_in (slot_of self.new slot)
+            ≡ with_user (kept_in (slot_of self.old slot)) tag user) }
     {
         let rack = Arc::make_mut(&mut self.rack)?;
         rack.add_tag_user(slot, tag, user, at)
@@ -242,7 +245,8 @@ impl Spine {
         requires said { (row_applied place (row_in (slot_of self.old slot) user) op.now).said < 2 ^ 64 }
         ensures others { self.new ≡ slice_set self.old slot (slot_of self.new slot) }
         ensures err { OnErr result (self.new ≡ self.old) }
-        ensures ok { OnOk result (kept_in (slot_of self.new slot) ≡ with_row (kept_in (slot_of self.old slot)) user (row_applied place (row_in (slot_of self.old slot) user) op.now)) }
+        ensures ok { OnOk result (kept_in (slot_of self.new slot)
+            ≡ with_op (kept_in (slot_of self.old slot)) user place op.now) }
     {
         self.pages[slot / PAGE].apply_to_user(slot % PAGE, user, place, op, at)
     }
@@ -259,7 +263,8 @@ impl Spine {
         requires at { at ≡ user_place (users_in (slot_of self.old slot) tag) user }
         ensures others { self.new ≡ slice_set self.old slot (slot_of self.new slot) }
         ensures err { OnErr result (self.new ≡ self.old) }
-        ensures ok { OnOk result (kept_in (slot_of self.new slot) ≡ with_users (kept_in (slot_of self.old slot)) tag (with_member user (users_in (slot_of self.old slot) tag))) }
+        ensures ok { OnOk result (kept_in (slot_of self.new slot)
+            ≡ with_user (kept_in (slot_of self.old slot)) tag user) }
     {
         self.pages[slot / PAGE].add_tag_user(slot % PAGE, tag, user, at)
     }

@@ -1,6 +1,6 @@
 //! The store of one partition in blocks.
 
-ghost use Rattle.std.specs.Prelude.{◌≡◌, ◌<◌, ◌^◌, ℕ, List, IfOk, OnOk, OnErr, filter, length, not, true};
+ghost use Rattle.std.specs.Prelude.{◌≡◌, ◌<◌, ◌^◌, ◌++◌, ℕ, List, IfOk, OnOk, OnErr, false, filter, length, not, true};
 ghost use Rattle.std.specs.Map.{keys_of};
 ghost use Rattle.std.specs.List.{list_any};
 ghost use Rattle.std.specs.List.Sorted.{IsStrictlySortedBy};
@@ -10,12 +10,13 @@ ghost use Rattle.kin_ids.specs.Parting.{user_part, tag_part};
 ghost use Rattle.kin_ids.specs.Operations.{op_part};
 ghost use Rattle.kin_ids.specs.Parts.{with_member};
 ghost use Rattle.kin_ids.specs.Users.{has_user, same_tag, tag_cmp, user_cmp};
-ghost use Rattle.kin_store.specs.Rows.{is_apart, is_none, row_applied};
+ghost use Rattle.kin_store.specs.Rows.{is_apart, is_none, no_row, row_applied};
 ghost use Rattle.kin_store.specs.Lists.{user_key, user_place};
-ghost use Rattle.kin_store.specs.Changes.{with_row, with_users, done, kept};
+ghost use Rattle.kin_store.specs.Changes.{with_op, with_user, done, kept};
 ghost use Rattle.kin_store.specs.Hints.{op_count, op_place, row_count, row_place, IsHint, IsOpHint, IsRowHint};
 ghost use Rattle.kin_store.specs.State.{block_at, empty_part, row_of, tag_slot, user_slot, users_of, LivesHere};
 
+use crate::blocks::Block;
 use crate::lists::{Users, is_member, place_in};
 use crate::rows::{Blank, Row};
 use crate::spine::Spine;
@@ -124,10 +125,22 @@ impl Store {
         Ok(users)
     }
 
+    /// The users of all rows, in no stated order. O(n).
+    pub(crate) fn owners(&self) -> Result<Vec<User>, Memory>
+        ensures { IfOk result (λ us. (u : User) → has_user us.items u ≡ false → row_of self.now u ≡ no_row) }
+    {
+        let mut users = Vec::new(self.alloc);
+        for slot in 0..self.spine.len() {
+            put_owners(&mut users, self.spine.block(slot))?;
+        }
+        Ok(users)
+    }
+
     // The users of a block's rows that aren't apart.
     fn vertices_in(&self, slot: usize) -> Result<Vec<User>, Memory>
         requires { slot < length self.now.blocks }
-        ensures { IfOk result (λ us. us.items ≡ filter (λ u. not (is_apart (row_of self.now u))) (keys_of (block_at self.now slot).rows)) }
+        ensures { IfOk result (λ us. us.items
+            ≡ filter (λ u. not (is_apart (row_of self.now u))) (keys_of (block_at self.now slot).rows)) }
     {
         let mut users = Vec::new(self.alloc);
         for user in self.spine.block(slot).rows().keys() {
@@ -141,7 +154,8 @@ impl Store {
     /// The tags that somebody has used, ascending. O(n log n).
     pub(crate) fn tags(&self) -> Result<Vec<Tag>, Memory>
         ensures ascend { IfOk result (λ ts. IsStrictlySortedBy tag_cmp ts.items) }
-        ensures in_use { IfOk result (λ ts. (t : List ℕ) → list_any (same_tag t) ts.items ≡ not (is_none (users_of self.now t))) }
+        ensures in_use { IfOk result (λ ts. (t : List ℕ)
+            → list_any (same_tag t) ts.items ≡ not (is_none (users_of self.now t))) }
     {
         let mut tags = BTreeSet::new(self.alloc);
         for slot in 0..self.spine.len() {
@@ -154,7 +168,8 @@ impl Store {
     // The tags of a block that somebody has used.
     fn tags_in(&self, slot: usize) -> Result<Vec<Tag>, Memory>
         requires { slot < length self.now.blocks }
-        ensures { IfOk result (λ ts. ts.items ≡ filter (λ t. not (is_none (users_of self.now t))) (keys_of (block_at self.now slot).tags)) }
+        ensures { IfOk result (λ ts. ts.items
+            ≡ filter (λ t. not (is_none (users_of self.now t))) (keys_of (block_at self.now slot).tags)) }
     {
         let mut tags = Vec::new(self.alloc);
         for tag in self.spine.block(slot).tags().keys() {
@@ -233,7 +248,8 @@ impl Store {
     // Whether an operation on a user's row is known to change nothing.
     fn is_done_by_user(&self, user: User, op: &Op, at: Option<usize>) -> bool
         requires { at ≡ row_place (row_of self.now user) op.now }
-        ensures { result ≡ true → (place : Place) → row_applied place (row_of self.now user) op.now ≡ row_of self.now user }
+        ensures { result ≡ true → (place : Place)
+            → row_applied place (row_of self.now user) op.now ≡ row_of self.now user }
     {
         self.row(user).is_done(op, at)
     }
@@ -275,7 +291,7 @@ impl Store {
         requires at { at ≡ row_place (row_of self.old user) op.now }
         requires home { user_part self.old.parts user ≡ self.old.part }
         requires said { (row_applied place (row_of self.old user) op.now).said < 2 ^ 64 }
-        ensures ok { OnOk result (kept self.new ≡ with_row (kept self.old) user (row_applied place (row_of self.old user) op.now)) }
+        ensures ok { OnOk result (kept self.new ≡ with_op (kept self.old) user place op.now) }
         ensures err { OnErr result (self.new ≡ self.old) }
         ensures same { (self.new.part ≡ self.old.part) × (self.new.parts ≡ self.old.parts) }
     {
@@ -287,7 +303,7 @@ impl Store {
     fn add_tag_user(&mut self, tag: Tag, user: User, at: Option<usize>) -> Result<(), Memory>
         requires at { at ≡ user_place (users_of self.old tag) user }
         requires home { tag_part self.old.parts tag ≡ self.old.part }
-        ensures ok { OnOk result (kept self.new ≡ with_users (kept self.old) tag (with_member user (users_of self.old tag))) }
+        ensures ok { OnOk result (kept self.new ≡ with_user (kept self.old) tag user) }
         ensures err { OnErr result (self.new ≡ self.old) }
         ensures same { (self.new.part ≡ self.old.part) × (self.new.parts ≡ self.old.parts) }
     {
@@ -321,6 +337,16 @@ impl Store {
             | Op::Use(user, _) => self.apply_to_user(*user, place, op, at),
         }
     }
+}
+
+// Appends the users of a block's rows.
+fn put_owners(users: &mut Vec<User>, block: &Block) -> Result<(), Memory>
+    ensures { OnOk result (users.new.items ≡ users.old.items ++ keys_of block.now.rows) }
+{
+    for user in block.rows().keys() {
+        users.push(*user)?;
+    }
+    Ok(())
 }
 
 /// A clone shares each block. O(n) in the blocks.

@@ -27,7 +27,8 @@ impl Model for Written {
 
     ghost view = { λ _. tt };
 
-    ghost invariant = { λ a. IsIndexed (kept a.snap) a.index × (((a.snap.part ≡ 0) × (a.snap.parts ≡ 1)) × ((u : User) → (row_of a.snap u).said ≤ a.number)) };
+    ghost invariant = { λ a. IsIndexed (kept a.snap) a.index
+        × (((a.snap.part ≡ 0) × (a.snap.parts ≡ 1)) × ((u : User) → (row_of a.snap u).said ≤ a.number)) };
 }
 
 impl Written {

@@ -5,4 +5,5 @@ use Rattle.kin_graph.proofs.differences.new_tag_users.Given as goal
 
 -- what is told so far, and what is left
 abbrev pub invariant-loop-used : goal.invariant-loop-used
-invariant-loop-used l = l.rows ++ new_tag_users (view_of l.was) (view_of l.is) l.used-iterator ≡ new_tag_users (view_of l.was) (view_of l.is) l.touched.keys
+invariant-loop-used l = l.rows ++ new_tag_users (view_of l.was) (view_of l.is) l.used-iterator ≡ new_tag_users (view_of l.was)
+    (view_of l.is) l.touched.keys

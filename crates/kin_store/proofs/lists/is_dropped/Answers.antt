@@ -18,4 +18,5 @@ returns c = λ so.
     let xs = c.args.halves.now in
     let at : half_place xs w ≡ Some c.in-Some.at = sym c.requires ∙ c.in-Some.is in
     without_half-turned w xs
-    ∙ turned-same w false xs c.in-Some.at c.at.result at (ap (λ (h : Half). h.present) (sym (c.at.ensures c.at.result)) ∙ not_true c.at.result.present so)
+    ∙ turned-same w false xs c.in-Some.at c.at.result at (ap (λ (h : Half). h.present) (sym (c.at.ensures c.at.result))
+    ∙ not_true c.at.result.present so)

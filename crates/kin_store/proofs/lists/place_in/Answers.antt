@@ -20,7 +20,8 @@ pub returns-then-at-len : goal.returns-then-at-len
 returns-then-at-len g c =
     let p : g.row.T.Denot → Bool = λ x. is_at (g.K.Ord.cmp c.args.key) (g.T.Keyed.key x) in
     let none : place_of g.K.Ord.cmp g.T.Keyed.key c.args.key (take 16 c.args.items.now) ≡ None = search rules in
-    hint-beyond p c.args.items.now 16 c.args.hint c.requires none c.in-Some-hint.at c.in-Some-hint.is (omega (arith, c.if-at-len.true, c.len.ensures))
+    hint-beyond p c.args.items.now 16 c.args.hint c.requires none c.in-Some-hint.at c.in-Some-hint.is
+    (omega (arith, c.if-at-len.true, c.len.ensures))
 
 pub returns-then-is_eq : goal.returns-then-is_eq
 returns-then-is_eq g c =
@@ -28,11 +29,13 @@ returns-then-is_eq g c =
     let none : place_of g.K.Ord.cmp g.T.Keyed.key c.args.key (take 16 c.args.items.now) ≡ None = search rules in
     let within : c.in-Some-hint.at < length c.args.items.now = omega (arith, c.if-at-len.false, c.len.ensures) in
     let like : p c.at.result ≡ true = search rules in
-    hint-yes p c.args.items.now 16 c.args.hint c.requires none c.in-Some-hint.at c.at.result c.in-Some-hint.is within (ap p (sym (c.at.ensures c.at.result)) ∙ like)
+    hint-yes p c.args.items.now 16 c.args.hint c.requires none c.in-Some-hint.at c.at.result c.in-Some-hint.is within
+    (ap p (sym (c.at.ensures c.at.result)) ∙ like)
 
 pub returns : goal.returns
 returns g c =
     let p : g.row.T.Denot → Bool = λ x. is_at (g.K.Ord.cmp c.args.key) (g.T.Keyed.key x) in
     let none : place_of g.K.Ord.cmp g.T.Keyed.key c.args.key (take 16 c.args.items.now) ≡ None = search rules in
     let unlike : p c.at.result ≡ false = search rules in
-    hint-other p c.args.items.now 16 c.args.hint c.requires none c.in-Some-hint.at c.at.result c.in-Some-hint.is (ap p (sym (c.at.ensures c.at.result)) ∙ unlike)
+    hint-other p c.args.items.now 16 c.args.hint c.requires none c.in-Some-hint.at c.at.result c.in-Some-hint.is
+    (ap p (sym (c.at.ensures c.at.result)) ∙ unlike)

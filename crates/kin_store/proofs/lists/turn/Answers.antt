@@ -8,10 +8,13 @@ returns-in_default-clause-ok c = sym (turned-none c.args.other c.args.present c.
 
 pub returns-then-half-present-clause-ok : goal.returns-then-half-present-clause-ok
 returns-then-half-present-clause-ok c =
-    turn-same c.args.other c.args.present c.args.halves.now c.args.halves.now c.in-Some.at c.at-half.result refl (sym c.in-Some.is ∙ c.requires)
+    turn-same c.args.other c.args.present c.args.halves.now c.args.halves.now c.in-Some.at c.at-half.result refl (sym c.in-Some.is
+    ∙ c.requires)
     (rw (← c.at-half.ensures c.at-half.result) c.if-half-present.true)
 
 pub returns-clause-ok : goal.returns-clause-ok
 returns-clause-ok c =
-    c.in_ok-set.ensures.ok ∙ (ap (λ (h : Half). set c.args.halves.now c.in-Some.at (with_present c.args.present h)) (c.at-half.ensures c.at-half.result)
-    ∙ turn-writes c.args.other c.args.present c.args.halves.now c.args.halves.now c.in-Some.at c.at-half.result refl (sym c.in-Some.is ∙ c.requires))
+    c.in_ok-set.ensures.ok ∙ (ap (λ (h : Half). set c.args.halves.now c.in-Some.at (with_present c.args.present h))
+    (c.at-half.ensures c.at-half.result)
+    ∙ turn-writes c.args.other c.args.present c.args.halves.now c.args.halves.now c.in-Some.at c.at-half.result refl (sym c.in-Some.is
+    ∙ c.requires))

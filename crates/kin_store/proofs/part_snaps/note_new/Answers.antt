@@ -14,4 +14,5 @@ pub returns-clause-ready : goal.returns-clause-ready
 returns-clause-ready c =
     let none : op_place (kept c.args.store.now) c.args.op.now ≡ None = search rules in
     on_ok_weaker c.note.result (λ (notes : NotesOp c.args.index.now c.args.op.now c.count.result c.note.new.self).
-    ready-new (kept c.args.store.now) c.args.op.now c.args.index.now c.note.new.self c.count.result c.requires.known none c.count.ensures notes) c.note.ensures.ok
+    ready-new (kept c.args.store.now) c.args.op.now c.args.index.now c.note.new.self c.count.result c.requires.known none c.count.ensures
+    notes) c.note.ensures.ok

@@ -23,11 +23,13 @@ write-requires-clause-said c =
     let k = kept c.loop-numbered.self in
     let x = c.numbered-item.result in
     let n = c.loop-numbered.numbered-index in
-    let all : done_all e i (kept c.args.self.now) c.args.ops.now ≡ done_all e i (done (record { epoch = c.args.epoch; ingest = c.args.ingest; number = x.number }) k x.op) (drop (n + 1) c.args.ops.now) =
+    let all : done_all e i (kept c.args.self.now) c.args.ops.now ≡ done_all e i
+    (done (record { epoch = c.args.epoch; ingest = c.args.ingest; number = x.number }) k x.op) (drop (n + 1) c.args.ops.now) =
     sym c.loop-numbered.invariant.rest ∙ done_all-more e i k c.args.ops.now n x c.loop-numbered-test.true c.numbered-item.is in
     λ u.
     let fits = subst (λ (m : Kept). (m.row u).said < 2 ^ 64) all (c.requires.said u) in
-    let grows = done_all-grows e i (done (record { epoch = c.args.epoch; ingest = c.args.ingest; number = x.number }) k x.op) (drop (n + 1) c.args.ops.now) u in
+    let grows = done_all-grows e i (done (record { epoch = c.args.epoch; ingest = c.args.ingest; number = x.number }) k x.op)
+    (drop (n + 1) c.args.ops.now) u in
     omega (arith, fits, grows)
 
 pub loop-numbered-preserved : goal.loop-numbered-preserved
@@ -41,9 +43,12 @@ loop-numbered-preserved c =
     let inv = c.loop-numbered.invariant in
     let step = c.in_ok-write.ensures in
     record {
-      rest = ap (λ (m : Kept). done_all e i m (drop (n + 1) c.args.ops.now)) step.ok ∙ (sym (done_all-more e i (kept s) c.args.ops.now n x c.loop-numbered-test.true c.numbered-item.is) ∙ inv.rest);
+      rest = ap (λ (m : Kept). done_all e i m (drop (n + 1) c.args.ops.now)) step.ok
+          ∙ (sym (done_all-more e i (kept s) c.args.ops.now n x c.loop-numbered-test.true c.numbered-item.is) ∙ inv.rest);
       part = step.same.0 ∙ inv.part;
       parts = step.same.1 ∙ inv.parts;
-      stays = precedes-trans (kept c.args.self.now) (kept s) (kept c.write.new.self) inv.stays (subst (λ (m : Kept). Precedes (kept s) m) (sym step.ok) (precedes-done at (kept s) x.op));
-      others = leaves-step c.args.ops.now n x c.loop-numbered-test.true c.numbered-item.is c.args.self.now s c.write.new.self at inv.others step.ok;
+      stays = precedes-trans (kept c.args.self.now) (kept s) (kept c.write.new.self) inv.stays
+          (subst (λ (m : Kept). Precedes (kept s) m) (sym step.ok) (precedes-done at (kept s) x.op));
+      others = leaves-step c.args.ops.now n x c.loop-numbered-test.true c.numbered-item.is c.args.self.now s c.write.new.self at inv.others
+          step.ok;
     }

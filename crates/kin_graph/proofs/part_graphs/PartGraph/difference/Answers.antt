@@ -18,8 +18,10 @@ pub returns : goal.returns
 returns c =
     let lists = c.in_ok-lists.lists in
     let filled : IsFilled c.args.touched.now (view_of c.args.old.now) (view_of c.args.self.now) lists =
-    subst (λ (s : PartState). IsFilled c.args.touched.now (view_of c.args.old.now) (view_of s) lists) c.self.view_is c.in_ok-lists.ensures.filled in
+    subst (λ (s : PartState). IsFilled c.args.touched.now (view_of c.args.old.now) (view_of s) lists) c.self.view_is
+    c.in_ok-lists.ensures.filled in
     let exact : IsDelta (view_of c.args.old.now) (view_of c.args.self.now) lists =
-    delta-exact c.args.touched.now (view_of c.args.old.now) (view_of c.args.self.now) c.requires.touched c.in_ok-lists.ensures.noted lists filled in
+    delta-exact c.args.touched.now (view_of c.args.old.now) (view_of c.args.self.now) c.requires.touched c.in_ok-lists.ensures.noted lists
+    filled in
     IfOk-weaker c.of.result (λ d. d ≡ lists) (λ d. IsDelta (view_of c.args.old.now) (view_of c.args.self.now) d)
     (λ d e. subst (λ (l : DeltaLists). IsDelta (view_of c.args.old.now) (view_of c.args.self.now) l) (sym e) exact) c.of.ensures

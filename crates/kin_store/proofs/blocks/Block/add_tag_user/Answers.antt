@@ -19,9 +19,11 @@ returns-in-Some-clause-ok c =
     let tags = (c.get_mut.follows.lender new).entries in
     let w = c.get_mut.follows.holds new in
     let there : IsSome (lookup (same_tag c.args.tag) b.tags) = rw (← c.in-Some.ensures.value) refl in
-    let P : BlockState → Type 0 = λ t. kept_in (record b { tags = tags }) ≡ with_users (kept_in t) c.args.tag (with_member c.args.user (users_in t c.args.tag)) in
+    let P : BlockState → Type 0 = λ t. kept_in (record b { tags = tags }) ≡ with_users (kept_in t) c.args.tag
+    (with_member c.args.user (users_in t c.args.tag)) in
     on_ok_weaker c.put.result
-    (λ (e : new ≡ with_member c.args.user c.in-Some.users.now). subst P c.self.view_is (kept-users b tags c.args.tag (Some new) ((w.3 there).0) _
+    (λ (e : new ≡ with_member c.args.user c.in-Some.users.now). subst P c.self.view_is
+    (kept-users b tags c.args.tag (Some new) ((w.3 there).0) _
     (e ∙ ap (λ (us : List User). with_member c.args.user us) (sym (users-found b c.args.tag c.in-Some.users.now c.in-Some.ensures.value)))))
     c.put.ensures.ok
 
@@ -30,7 +32,8 @@ returns-clause-ok c =
     let b : BlockState = record { rows = c.self.inside.rows.entries; tags = c.self.inside.tags.entries } in
     let none : users_in b c.args.tag ≡ [] = users-none b c.args.tag c.in_default.ensures.value in
     let puts = rw c.get_mut.follows.holds-at-none at c.in_ok-insert.ensures.updates.0 in
-    let P : BlockState → Type 0 = λ t. kept_in (record b { tags = c.insert.new.self.entries }) ≡ with_users (kept_in t) c.args.tag (with_member c.args.user (users_in t c.args.tag)) in
+    let P : BlockState → Type 0 = λ t. kept_in (record b { tags = c.insert.new.self.entries }) ≡ with_users (kept_in t) c.args.tag
+    (with_member c.args.user (users_in t c.args.tag)) in
     let put : c.put_user.new.users ≡ with_member c.args.user (users_in b c.args.tag) =
     c.in_ok-put_user.ensures.ok ∙ ap (λ (us : List User). with_member c.args.user us) (c.new-users.ensures ∙ sym none) in
     subst P c.self.view_is (kept-users b c.insert.new.self.entries c.args.tag (Some c.in_ok-new.field-0) puts _ (c.in_ok-new.ensures ∙ put))
@@ -49,4 +52,5 @@ pub put-requires : goal.put-requires
 put-requires c =
     let b : BlockState = record { rows = c.self.inside.rows.entries; tags = c.self.inside.tags.entries } in
     let at = subst (λ (t : BlockState). c.args.at ≡ user_place (users_in t c.args.tag) c.args.user) (sym c.self.view_is) c.requires in
-    subst (λ (us : List User). c.args.at ≡ user_place us c.args.user) (users-found b c.args.tag c.in-Some.users.now c.in-Some.ensures.value) at
+    subst (λ (us : List User). c.args.at ≡ user_place us c.args.user) (users-found b c.args.tag c.in-Some.users.now c.in-Some.ensures.value)
+    at

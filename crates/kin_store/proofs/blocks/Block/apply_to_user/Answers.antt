@@ -21,8 +21,10 @@ apply-requires-clause-at c =
 pub apply-requires-clause-said : goal.apply-requires-clause-said
 apply-requires-clause-said c =
     let b : BlockState = record { rows = c.self.inside.rows.entries; tags = c.self.inside.tags.entries } in
-    let said = subst (λ (t : BlockState). (row_applied c.args.place (row_in t c.args.user) c.args.op.now).said < 2 ^ 64) (sym c.self.view_is) c.requires.said in
-    subst (λ (r : UserRow). (row_applied c.args.place r c.args.op.now).said < 2 ^ 64) (row-found b c.args.user c.in-Some.vertex.now c.in-Some.ensures.value) said
+    let said = subst (λ (t : BlockState). (row_applied c.args.place (row_in t c.args.user) c.args.op.now).said < 2 ^ 64)
+    (sym c.self.view_is) c.requires.said in
+    subst (λ (r : UserRow). (row_applied c.args.place r c.args.op.now).said < 2 ^ 64)
+    (row-found b c.args.user c.in-Some.vertex.now c.in-Some.ensures.value) said
 
 pub returns-in-Some-clause-ok : goal.returns-in-Some-clause-ok
 returns-in-Some-clause-ok c =
@@ -31,10 +33,13 @@ returns-in-Some-clause-ok c =
     let rows = (c.get_mut.follows.lender new).entries in
     let w = c.get_mut.follows.holds new in
     let there : IsSome (lookup (same_user c.args.user) b.rows) = rw (← c.in-Some.ensures.value) refl in
-    let P : BlockState → Type 0 = λ t. kept_in (record b { rows = rows }) ≡ with_row (kept_in t) c.args.user (row_applied c.args.place (row_in t c.args.user) c.args.op.now) in
+    let P : BlockState → Type 0 = λ t. kept_in (record b { rows = rows }) ≡ with_row (kept_in t) c.args.user
+    (row_applied c.args.place (row_in t c.args.user) c.args.op.now) in
     on_ok_weaker c.apply.result
-    (λ (e : new ≡ row_applied c.args.place c.in-Some.vertex.now c.args.op.now). subst P c.self.view_is (kept-row b rows c.args.user (Some new) ((w.3 there).0) _
-    (e ∙ ap (λ (r : UserRow). row_applied c.args.place r c.args.op.now) (sym (row-found b c.args.user c.in-Some.vertex.now c.in-Some.ensures.value)))))
+    (λ (e : new ≡ row_applied c.args.place c.in-Some.vertex.now c.args.op.now). subst P c.self.view_is
+    (kept-row b rows c.args.user (Some new) ((w.3 there).0) _
+    (e ∙ ap (λ (r : UserRow). row_applied c.args.place r c.args.op.now)
+    (sym (row-found b c.args.user c.in-Some.vertex.now c.in-Some.ensures.value)))))
     c.apply.ensures.ok
 
 pub returns-clause-ok : goal.returns-clause-ok
@@ -42,8 +47,10 @@ returns-clause-ok c =
     let b : BlockState = record { rows = c.self.inside.rows.entries; tags = c.self.inside.tags.entries } in
     let none : row_in b c.args.user ≡ no_row = row-none b c.args.user c.in_default.ensures.value in
     let puts = rw c.get_mut.follows.holds-at-none at c.in_ok-insert.ensures.updates.0 in
-    let new : c.apply-2.new.self ≡ row_applied c.args.place (row_in b c.args.user) c.args.op.now = rw (none, ← c.new-row.ensures) c.in_ok-apply.ensures.ok in
-    let P : BlockState → Type 0 = λ t. kept_in (record b { rows = c.insert.new.self.entries }) ≡ with_row (kept_in t) c.args.user (row_applied c.args.place (row_in t c.args.user) c.args.op.now) in
+    let new : c.apply-2.new.self ≡ row_applied c.args.place (row_in b c.args.user) c.args.op.now =
+    rw (none, ← c.new-row.ensures) c.in_ok-apply.ensures.ok in
+    let P : BlockState → Type 0 = λ t. kept_in (record b { rows = c.insert.new.self.entries }) ≡ with_row (kept_in t) c.args.user
+    (row_applied c.args.place (row_in t c.args.user) c.args.op.now) in
     subst P c.self.view_is (kept-row b c.insert.new.self.entries c.args.user (Some c.in_ok-new.field-0) puts _ (c.in_ok-new.ensures ∙ new))
 
 pub returns-in-Some-clause-err : goal.returns-in-Some-clause-err

@@ -6,4 +6,5 @@ use Rattle.kin_store.proofs.part_snaps.PartSnap.has_tag_user.Goals as goal
 
 pub is_among-requires : goal.is_among-requires
 is_among-requires c = λ i f e. c.users.ensures
-    ∙ c.requires.indexed.users (tag_user c.args.tag c.args.user) i f (ap (λ (xs : List User). user_place xs c.args.user) (sym c.users_of.ensures) ∙ e)
+    ∙ c.requires.indexed.users (tag_user c.args.tag c.args.user) i f (ap (λ (xs : List User). user_place xs c.args.user)
+    (sym c.users_of.ensures) ∙ e)

@@ -6,4 +6,5 @@ use Rattle.kin_store.proofs.part_snaps.PartSnap.in_half.Goals as goal
 
 pub half_of-requires : goal.half_of-requires
 half_of-requires c = λ i f e. c.inn-2.ensures
-    ∙ c.requires.indexed.inn c.args.pair i f (ap (λ (xs : List Half). half_place xs c.args.pair.other) (sym (c.inn.ensures ∙ ap (λ (r : UserRow). r.inn) c.row.ensures)) ∙ e)
+    ∙ c.requires.indexed.inn c.args.pair i f (ap (λ (xs : List Half). half_place xs c.args.pair.other)
+    (sym (c.inn.ensures ∙ ap (λ (r : UserRow). r.inn) c.row.ensures)) ∙ e)

@@ -23,7 +23,8 @@ apply_to_user-requires-clause-slot c =
     let n = c.self.inside.count in
     let k = c.args.slot in
     let within : k < length (joined ps []) = subst (λ (l : List BlockState). k < length l) (sym c.self.view_is) c.requires.slot in
-    let read : c.index_mut.result.now ≡ get_or ps (k / 64) [] = get_or_read ps (k / 64) c.index_mut.result.now (page-there ps n k c.self.invariant within) c.index_mut.ensures.value [] in
+    let read : c.index_mut.result.now ≡ get_or ps (k / 64) [] = get_or_read ps (k / 64) c.index_mut.result.now
+    (page-there ps n k c.self.invariant within) c.index_mut.ensures.value [] in
     subst (λ (l : List BlockState). k % 64 < length l) (sym read) (slot-there ps n k c.self.invariant within)
 
 pub apply_to_user-requires-clause-at : goal.apply_to_user-requires-clause-at
@@ -32,8 +33,10 @@ apply_to_user-requires-clause-at c =
     let n = c.self.inside.count in
     let k = c.args.slot in
     let within : k < length (joined ps []) = subst (λ (l : List BlockState). k < length l) (sym c.self.view_is) c.requires.slot in
-    let read : c.index_mut.result.now ≡ get_or ps (k / 64) [] = get_or_read ps (k / 64) c.index_mut.result.now (page-there ps n k c.self.invariant within) c.index_mut.ensures.value [] in
-    let old : slot_of c.index_mut.result.now (k % 64) ≡ slot_of c.args.self.now k = ap (λ (l : List BlockState). slot_of l (k % 64)) read ∙ (slot-read ps n k c.self.invariant within ∙ ap (λ (l : List BlockState). slot_of l k) c.self.view_is) in
+    let read : c.index_mut.result.now ≡ get_or ps (k / 64) [] = get_or_read ps (k / 64) c.index_mut.result.now
+    (page-there ps n k c.self.invariant within) c.index_mut.ensures.value [] in
+    let old : slot_of c.index_mut.result.now (k % 64) ≡ slot_of c.args.self.now k = ap (λ (l : List BlockState). slot_of l (k % 64)) read
+    ∙ (slot-read ps n k c.self.invariant within ∙ ap (λ (l : List BlockState). slot_of l k) c.self.view_is) in
     subst (λ (b : BlockState). c.args.at ≡ row_place (row_in b c.args.user) c.args.op.now) (sym old) c.requires.at
 
 pub apply_to_user-requires-clause-said : goal.apply_to_user-requires-clause-said
@@ -42,8 +45,10 @@ apply_to_user-requires-clause-said c =
     let n = c.self.inside.count in
     let k = c.args.slot in
     let within : k < length (joined ps []) = subst (λ (l : List BlockState). k < length l) (sym c.self.view_is) c.requires.slot in
-    let read : c.index_mut.result.now ≡ get_or ps (k / 64) [] = get_or_read ps (k / 64) c.index_mut.result.now (page-there ps n k c.self.invariant within) c.index_mut.ensures.value [] in
-    let old : slot_of c.index_mut.result.now (k % 64) ≡ slot_of c.args.self.now k = ap (λ (l : List BlockState). slot_of l (k % 64)) read ∙ (slot-read ps n k c.self.invariant within ∙ ap (λ (l : List BlockState). slot_of l k) c.self.view_is) in
+    let read : c.index_mut.result.now ≡ get_or ps (k / 64) [] = get_or_read ps (k / 64) c.index_mut.result.now
+    (page-there ps n k c.self.invariant within) c.index_mut.ensures.value [] in
+    let old : slot_of c.index_mut.result.now (k % 64) ≡ slot_of c.args.self.now k = ap (λ (l : List BlockState). slot_of l (k % 64)) read
+    ∙ (slot-read ps n k c.self.invariant within ∙ ap (λ (l : List BlockState). slot_of l k) c.self.view_is) in
     subst (λ (b : BlockState). (row_applied c.args.place (row_in b c.args.user) c.args.op.now).said < 2 ^ 64) (sym old) c.requires.said
 
 pub invariant_of-self : goal.invariant_of-self
@@ -52,9 +57,11 @@ invariant_of-self c =
     let n = c.self.inside.count in
     let k = c.args.slot in
     let within : k < length (joined ps []) = subst (λ (l : List BlockState). k < length l) (sym c.self.view_is) c.requires.slot in
-    let read : c.index_mut.result.now ≡ get_or ps (k / 64) [] = get_or_read ps (k / 64) c.index_mut.result.now (page-there ps n k c.self.invariant within) c.index_mut.ensures.value [] in
+    let read : c.index_mut.result.now ≡ get_or ps (k / 64) [] = get_or_read ps (k / 64) c.index_mut.result.now
+    (page-there ps n k c.self.invariant within) c.index_mut.ensures.value [] in
     let new : List BlockState = c.apply_to_user.new.self in
-    let others : new ≡ set (get_or ps (k / 64) []) (k % 64) (slot_of new (k % 64)) = c.apply_to_user.ensures.others ∙ ap (λ (l : List BlockState). set l (k % 64) (slot_of new (k % 64))) read in
+    let others : new ≡ set (get_or ps (k / 64) []) (k % 64) (slot_of new (k % 64)) = c.apply_to_user.ensures.others
+    ∙ ap (λ (l : List BlockState). set l (k % 64) (slot_of new (k % 64))) read in
     paged-set ps n k c.self.invariant within new others
 
 pub returns-clause-others : goal.returns-clause-others
@@ -63,10 +70,13 @@ returns-clause-others c =
     let n = c.self.inside.count in
     let k = c.args.slot in
     let within : k < length (joined ps []) = subst (λ (l : List BlockState). k < length l) (sym c.self.view_is) c.requires.slot in
-    let read : c.index_mut.result.now ≡ get_or ps (k / 64) [] = get_or_read ps (k / 64) c.index_mut.result.now (page-there ps n k c.self.invariant within) c.index_mut.ensures.value [] in
+    let read : c.index_mut.result.now ≡ get_or ps (k / 64) [] = get_or_read ps (k / 64) c.index_mut.result.now
+    (page-there ps n k c.self.invariant within) c.index_mut.ensures.value [] in
     let new : List BlockState = c.apply_to_user.new.self in
-    let others : new ≡ set (get_or ps (k / 64) []) (k % 64) (slot_of new (k % 64)) = c.apply_to_user.ensures.others ∙ ap (λ (l : List BlockState). set l (k % 64) (slot_of new (k % 64))) read in
-    page-others ps n k c.self.invariant within new others ∙ ap (λ (l : List BlockState). set l k (slot_of (joined (set ps (k / 64) new) []) k)) c.self.view_is
+    let others : new ≡ set (get_or ps (k / 64) []) (k % 64) (slot_of new (k % 64)) = c.apply_to_user.ensures.others
+    ∙ ap (λ (l : List BlockState). set l (k % 64) (slot_of new (k % 64))) read in
+    page-others ps n k c.self.invariant within new others
+    ∙ ap (λ (l : List BlockState). set l k (slot_of (joined (set ps (k / 64) new) []) k)) c.self.view_is
 
 pub returns-clause-ok : goal.returns-clause-ok
 returns-clause-ok c =
@@ -74,9 +84,16 @@ returns-clause-ok c =
     let n = c.self.inside.count in
     let k = c.args.slot in
     let within : k < length (joined ps []) = subst (λ (l : List BlockState). k < length l) (sym c.self.view_is) c.requires.slot in
-    let read : c.index_mut.result.now ≡ get_or ps (k / 64) [] = get_or_read ps (k / 64) c.index_mut.result.now (page-there ps n k c.self.invariant within) c.index_mut.ensures.value [] in
-    let old : slot_of c.index_mut.result.now (k % 64) ≡ slot_of c.args.self.now k = ap (λ (l : List BlockState). slot_of l (k % 64)) read ∙ (slot-read ps n k c.self.invariant within ∙ ap (λ (l : List BlockState). slot_of l k) c.self.view_is) in
+    let read : c.index_mut.result.now ≡ get_or ps (k / 64) [] = get_or_read ps (k / 64) c.index_mut.result.now
+    (page-there ps n k c.self.invariant within) c.index_mut.ensures.value [] in
+    let old : slot_of c.index_mut.result.now (k % 64) ≡ slot_of c.args.self.now k = ap (λ (l : List BlockState). slot_of l (k % 64)) read
+    ∙ (slot-read ps n k c.self.invariant within ∙ ap (λ (l : List BlockState). slot_of l k) c.self.view_is) in
     let new : List BlockState = c.apply_to_user.new.self in
-    let others : new ≡ set (get_or ps (k / 64) []) (k % 64) (slot_of new (k % 64)) = c.apply_to_user.ensures.others ∙ ap (λ (l : List BlockState). set l (k % 64) (slot_of new (k % 64))) read in
-    on_ok_weaker c.apply_to_user.result (λ (e : kept_in (slot_of new (k % 64)) ≡ (λ (b : BlockState). with_row (kept_in b) c.args.user (row_applied c.args.place (row_in b c.args.user) c.args.op.now)) (slot_of c.index_mut.result.now (k % 64))).
-    ap kept_in (slot-new ps n k c.self.invariant within new others) ∙ (e ∙ ap (λ (b : BlockState). with_row (kept_in b) c.args.user (row_applied c.args.place (row_in b c.args.user) c.args.op.now)) old)) c.apply_to_user.ensures.ok
+    let others : new ≡ set (get_or ps (k / 64) []) (k % 64) (slot_of new (k % 64)) = c.apply_to_user.ensures.others
+    ∙ ap (λ (l : List BlockState). set l (k % 64) (slot_of new (k % 64))) read in
+    on_ok_weaker c.apply_to_user.result (λ (e : kept_in (slot_of new (k % 64))
+    ≡ (λ (b : BlockState). with_row (kept_in b) c.args.user (row_applied c.args.place (row_in b c.args.user) c.args.op.now))
+    (slot_of c.index_mut.result.now (k % 64))).
+    ap kept_in (slot-new ps n k c.self.invariant within new others)
+    ∙ (e ∙ ap (λ (b : BlockState). with_row (kept_in b) c.args.user (row_applied c.args.place (row_in b c.args.user) c.args.op.now))
+    old)) c.apply_to_user.ensures.ok

@@ -19,7 +19,8 @@ block-requires c =
     let n = c.self.inside.count in
     let k = c.args.slot in
     let within : k < length (joined ps []) = subst (λ (l : List BlockState). k < length l) (sym c.self.view_is) c.requires in
-    let read : c.index.result.now ≡ get_or ps (k / 64) [] = get_or_read ps (k / 64) c.index.result.now (page-there ps n k c.self.invariant within) c.index.ensures [] in
+    let read : c.index.result.now ≡ get_or ps (k / 64) [] = get_or_read ps (k / 64) c.index.result.now
+    (page-there ps n k c.self.invariant within) c.index.ensures [] in
     subst (λ (l : List BlockState). k % 64 < length l) (sym read) (slot-there ps n k c.self.invariant within)
 
 pub returns : goal.returns
@@ -28,5 +29,7 @@ returns c =
     let n = c.self.inside.count in
     let k = c.args.slot in
     let within : k < length (joined ps []) = subst (λ (l : List BlockState). k < length l) (sym c.self.view_is) c.requires in
-    let read : c.index.result.now ≡ get_or ps (k / 64) [] = get_or_read ps (k / 64) c.index.result.now (page-there ps n k c.self.invariant within) c.index.ensures [] in
-    c.block.ensures ∙ (ap (λ (l : List BlockState). slot_of l (k % 64)) read ∙ (slot-read ps n k c.self.invariant within ∙ ap (λ (l : List BlockState). slot_of l k) c.self.view_is))
+    let read : c.index.result.now ≡ get_or ps (k / 64) [] = get_or_read ps (k / 64) c.index.result.now
+    (page-there ps n k c.self.invariant within) c.index.ensures [] in
+    c.block.ensures ∙ (ap (λ (l : List BlockState). slot_of l (k % 64)) read
+    ∙ (slot-read ps n k c.self.invariant within ∙ ap (λ (l : List BlockState). slot_of l k) c.self.view_is))

@@ -12,7 +12,8 @@ apply_to_user-requires-clause-said c =
     let k = kept c.args.self.now in
     let r : UserRow = row_applied c.args.place (row_of c.args.self.now u) c.args.op.now in
     let same : ((with_row k u r).row u).said ≡ r.said = ap (λ (x : UserRow). x.said) (changed-here k.row u r) in
-    let said = subst (λ (n : Kept). (n.row u).said < 2 ^ 64) (done-owner c.args.place k u c.args.op.now c.in-AddOut.is) (c.requires.said u) in
+    let said = subst (λ (n : Kept). (n.row u).said < 2 ^ 64) (done-owner c.args.place k u c.args.op.now c.in-AddOut.is)
+    (c.requires.said u) in
     rw (← same) said
 
 pub returns-in-AddOut-clause-ok : goal.returns-in-AddOut-clause-ok

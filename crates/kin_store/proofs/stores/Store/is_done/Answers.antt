@@ -11,10 +11,12 @@ pub returns-in-TagUse : goal.returns-in-TagUse
 returns-in-TagUse c = λ so place.
     let t = c.in-TagUse.tag in
     let s = c.args.self.now in
-    ap (λ (o : Op). done place (kept s) o) c.in-TagUse.is ∙ users-kept (kept s) t (with_member c.in-TagUse.user (users_of s t)) (c.is_done_by_tag.ensures so)
+    ap (λ (o : Op). done place (kept s) o) c.in-TagUse.is ∙ users-kept (kept s) t (with_member c.in-TagUse.user (users_of s t))
+    (c.is_done_by_tag.ensures so)
 
 pub returns-in-AddOut : goal.returns-in-AddOut
 returns-in-AddOut c = λ so place.
     let u = c.in-AddOut.user in
     let s = c.args.self.now in
-    done-owner place (kept s) u c.args.op.now c.in-AddOut.is ∙ row-kept (kept s) u (row_applied place (row_of s u) c.args.op.now) (c.is_done_by_user.ensures so place)
+    done-owner place (kept s) u c.args.op.now c.in-AddOut.is ∙ row-kept (kept s) u (row_applied place (row_of s u) c.args.op.now)
+    (c.is_done_by_user.ensures so place)

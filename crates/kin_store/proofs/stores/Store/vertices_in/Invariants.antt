@@ -7,4 +7,5 @@ use Rattle.kin_store.proofs.stores.Store.vertices_in.Given as goal
 -- the users so far, and those of the rows that are left
 abbrev pub invariant-loop-user : goal.invariant-loop-user
 invariant-loop-user l =
-    l.users.items ++ filter (λ u. not (is_apart (row_of l.self u))) l.user-iterator ≡ filter (λ u. not (is_apart (row_of l.self u))) (keys_of (block_at l.self l.slot).rows)
+    l.users.items ++ filter (λ u. not (is_apart (row_of l.self u))) l.user-iterator ≡ filter (λ u. not (is_apart (row_of l.self u)))
+    (keys_of (block_at l.self l.slot).rows)

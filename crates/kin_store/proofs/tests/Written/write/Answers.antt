@@ -9,6 +9,11 @@ invariant_of-self-2 c =
       c.in_ok-write.ensures.indexed,
       (
         (same.0 ∙ c.self.invariant.1.0.0, same.1 ∙ c.self.invariant.1.0.1),
-        λ u. omega (arith, more, few-done c.self.inside.snap c.write.new.self _ c.args.op c.self.inside.number c.in_ok-write.ensures.ok c.self.invariant.1.1 u),
+        λ u. omega (
+          arith,
+          more,
+          few-done c.self.inside.snap c.write.new.self _ c.args.op c.self.inside.number c.in_ok-write.ensures.ok
+              c.self.invariant.1.1 u,
+        ),
       ),
     )
