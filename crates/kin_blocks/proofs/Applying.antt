@@ -17,16 +17,20 @@ said-pieces e v (x ∷ xs) u =
     omega arith
 
 -- pieces one after the other
-pub pieces-append : (e : ℕ) (v : PartView) (xs ys : List Piece) → pieces_applied e v (xs ++ ys) ≡ pieces_applied e (pieces_applied e v xs) ys
+pub pieces-append : (e : ℕ) (v : PartView) (xs ys : List Piece) → pieces_applied e v (xs ++ ys) ≡ pieces_applied e
+    (pieces_applied e v xs) ys
 pieces-append e v [] ys = refl
 pieces-append e v (x ∷ xs) ys = pieces-append e (after e x v) xs ys
 
 -- the first pieces, and one more
-pub pieces-step : (e : ℕ) (v : PartView) (xs : List Piece) (k : ℕ) (x : Piece) → k < length xs → x ≡ get_or xs k x → pieces_applied e v (take (k + 1) xs) ≡ after e x (pieces_applied e v (take k xs))
+pub pieces-step : (e : ℕ) (v : PartView) (xs : List Piece) (k : ℕ) (x : Piece) → k < length xs → x ≡ get_or xs k x
+    → pieces_applied e v (take (k + 1) xs) ≡ after e x (pieces_applied e v (take k xs))
 pieces-step e v xs k x lt is =
-    ap (pieces_applied e v) (take_more xs k x lt) ∙ (pieces-append e v (take k xs) (get_or xs k x ∷ []) ∙ ap (λ (y : Piece). after e y (pieces_applied e v (take k xs))) (sym is))
+    ap (pieces_applied e v) (take_more xs k x lt) ∙ (pieces-append e v (take k xs) (get_or xs k x ∷ [])
+    ∙ ap (λ (y : Piece). after e y (pieces_applied e v (take k xs))) (sym is))
 
-pub said-front : (e : ℕ) (v : PartView) (xs : List Piece) (k : ℕ) (u : User) → (pieces_applied e v (take k xs)).said u ≤ (pieces_applied e v xs).said u
+pub said-front : (e : ℕ) (v : PartView) (xs : List Piece) (k : ℕ) (u : User) → (pieces_applied e v (take k xs)).said u
+    ≤ (pieces_applied e v xs).said u
 said-front e v xs k u =
     let more = said-pieces e (pieces_applied e v (take k xs)) (drop k xs) u in
     let same : (pieces_applied e (pieces_applied e v (take k xs)) (drop k xs)).said u ≡ (pieces_applied e v xs).said u =

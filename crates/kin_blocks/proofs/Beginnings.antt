@@ -7,7 +7,8 @@ use Rattle.kin_graph.specs.Deltas.{no_change}
 use Rattle.kin_blocks.specs.Blocks.{BlocksView, fresh}
 use Rattle.kin_blocks.specs.Snaps.{IsSnap, empty_stores}
 use Rattle.kin_blocks.proofs.Empties.{length-empty_stores, empty-snap}
-use Rattle.kin_blocks.specs.Versions.{IsVersion, IsVersions, AreWritten, unchanged, first_versions, first_writers, no_version, store_at, committed_at}
+use Rattle.kin_blocks.specs.Versions.{IsVersion, IsVersions, AreWritten, unchanged, first_versions, first_writers, no_version, store_at}
+use Rattle.kin_blocks.specs.Versions.{committed_at}
 
 pub IsVersions-first : (parts : ℕ) → 0 < parts → parts < 2 ^ 16 → IsVersions (first_versions parts)
 IsVersions-first parts some few =
@@ -33,6 +34,8 @@ AreWritten-first parts = record {
   count = length-map (empty_stores parts) fresh ∙ (length-empty_stores parts ∙ sym (length-replicate parts 0));
   each = λ p b lt.
       let below : p < length (empty_stores parts) = omega (arith, length-replicate {A = ℕ} parts 0, length-empty_stores parts) in
-      let none : committed_at (first_versions parts) p ≡ 0 = get_or-replicate {A = ℕ} parts p 0 0 (omega (arith, length-empty_stores parts)) in
-      get_or-map fresh (empty_stores parts) p (empty_part 0 0) b below ∙ ap fresh (sym (ap (λ (k : ℕ). store_at (first_versions parts) p k) none));
+      let none : committed_at (first_versions parts) p ≡ 0 = get_or-replicate {A = ℕ} parts p 0 0
+      (omega (arith, length-empty_stores parts)) in
+      get_or-map fresh (empty_stores parts) p (empty_part 0 0) b below
+      ∙ ap fresh (sym (ap (λ (k : ℕ). store_at (first_versions parts) p k) none));
 }

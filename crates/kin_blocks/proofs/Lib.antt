@@ -7,3 +7,4 @@ pub mod Few
 pub mod Steps
 mod Beginnings
 mod Releasing
+mod Alone

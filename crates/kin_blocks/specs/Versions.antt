@@ -1,5 +1,6 @@
 -- The stores of all partitions, epoch by epoch, and what each epoch changed.
-use Rattle.std.specs.Prelude.{ℕ, ◌≡◌, ◌<◌, ◌≤◌, ◌+◌, ◌-◌, ◌^◌, max, ◌==◌, if◌then◌else◌, Option, Some, None, List, [], ◌∷◌, ◌++◌, length, map, replicate, drop, slice_index, slice_index_or, slice_set}
+use Rattle.std.specs.Prelude.{ℕ, ◌≡◌, ◌<◌, ◌≤◌, ◌+◌, ◌-◌, ◌^◌, max, ◌==◌, if◌then◌else◌, Option, Some, None, List, [], ◌∷◌, ◌++◌}
+use Rattle.std.specs.Prelude.{length, map, replicate, drop, slice_index, slice_index_or, slice_set}
 use Rattle.kin_ids.specs.declared.ops.Piece.{Piece}
 use Rattle.kin_graph.specs.State.{PartState, view_of}
 use Rattle.kin_graph.specs.Deltas.{DeltaLists, no_change, IsDelta}

@@ -1,4 +1,5 @@
-//! One partition's store, as it is written: what it shares with the versions that were frozen, and what changed since the last.
+//! One partition's store, as it is written: what it shares with the versions that were frozen, and what changed since
+//! the last.
 
 ghost use Rattle.std.specs.Prelude.{◌≡◌, ◌<◌, ◌^◌, ℕ, All, IfOk, OnOk, OnErr};
 ghost use Rattle.kin_ids.specs.declared.ids.User.{User};
@@ -21,7 +22,8 @@ pub struct Frozen {
     pub delta: Delta,
 }
 
-/// A partition's store that is written, the one that was frozen last, and what was touched since. The two share what didn't change.
+/// A partition's store that is written, the one that was frozen last, and what was touched since. The two share what
+/// didn't change.
 #[derive(Drop)]
 pub struct Blocks {
     alloc: Global,
@@ -72,8 +74,8 @@ impl Blocks {
         self.graph.snap()
     }
 
-    /// An equal one, which shares the rows and is written by itself. O(n) in what was touched since the last freeze, and in the
-    /// items past the first few of each list, since each writer has an index of its own.
+    /// An equal one, which shares the rows and is written by itself. O(n) in what was touched since the last freeze,
+    /// and in the items past the first few of each list, since each writer has an index of its own.
     pub fn draft(&self) -> Result<Blocks, Memory>
         ensures { IfOk result (λ b. b ≡ self.now) }
     {
@@ -100,13 +102,15 @@ impl Blocks {
         self.graph.apply(epoch, piece)
     }
 
-    /// Applies an epoch's pieces, one run after the other, to a store that was frozen last, and freezes it then. It costs what the
-    /// pieces cost.
+    /// Applies an epoch's pieces, one run after the other, to a store that was frozen last, and freezes it then. It
+    /// costs what the pieces cost.
     pub fn advance(&mut self, epoch: Epoch, runs: &[Run]) -> Result<Frozen, Memory>
         requires frozen { self.old.latest ≡ self.old.frozen }
         requires may { MayTake epoch.0 self.old.latest (pieces_of runs.now) }
-        ensures applied { IfOk result (λ f. view_of f.snap ≡ pieces_applied epoch.0 (view_of self.old.latest) (pieces_of runs.now)) }
-        ensures same { IfOk result (λ f. (f.snap.part ≡ self.old.latest.part) × (f.snap.parts ≡ self.old.latest.parts)) }
+        ensures applied { IfOk result (λ f. view_of f.snap
+            ≡ pieces_applied epoch.0 (view_of self.old.latest) (pieces_of runs.now)) }
+        ensures same { IfOk result (λ f. (f.snap.part ≡ self.old.latest.part)
+            × (f.snap.parts ≡ self.old.latest.parts)) }
         ensures exact { IfOk result (λ f. IsDelta (view_of self.old.frozen) (view_of f.snap) f.delta) }
         ensures ok { IfOk result (λ f. self.new ≡ fresh f.snap) }
         ensures err { OnErr result (self.new ≡ self.old) }
@@ -124,7 +128,8 @@ impl Blocks {
     // Applies pieces and freezes the store. After `Memory` some operations are done.
     fn apply_and_freeze(&mut self, epoch: Epoch, runs: &[Run]) -> Result<Frozen, Memory>
         requires { MayTake epoch.0 self.old.latest (pieces_of runs.now) }
-        ensures applied { IfOk result (λ f. view_of f.snap ≡ pieces_applied epoch.0 (view_of self.old.latest) (pieces_of runs.now)) }
+        ensures applied { IfOk result (λ f. view_of f.snap
+            ≡ pieces_applied epoch.0 (view_of self.old.latest) (pieces_of runs.now)) }
         ensures goes { GoesOn self.old.latest self.new.latest }
         ensures exact { IfOk result (λ f. IsDelta (view_of self.old.frozen) (view_of f.snap) f.delta) }
         ensures ok { IfOk result (λ f. self.new ≡ fresh f.snap) }
@@ -137,7 +142,8 @@ impl Blocks {
     // Applies runs of pieces. After `Memory` some operations are done.
     fn apply_runs(&mut self, epoch: Epoch, runs: &[Run]) -> Result<(), Memory>
         requires { MayTake epoch.0 self.old.latest (pieces_of runs.now) }
-        ensures ok { OnOk result (view_of self.new.latest ≡ pieces_applied epoch.0 (view_of self.old.latest) (pieces_of runs.now)) }
+        ensures ok { OnOk result (view_of self.new.latest
+            ≡ pieces_applied epoch.0 (view_of self.old.latest) (pieces_of runs.now)) }
         ensures goes { GoesOn self.old.latest self.new.latest }
         ensures frozen { self.new.frozen ≡ self.old.frozen }
     {
@@ -150,7 +156,8 @@ impl Blocks {
     // Applies pieces in turn. After `Memory` some operations are done.
     fn apply_run(&mut self, epoch: Epoch, pieces: &[Piece]) -> Result<(), Memory>
         requires { MayTake epoch.0 self.old.latest pieces.now }
-        ensures ok { OnOk result (view_of self.new.latest ≡ pieces_applied epoch.0 (view_of self.old.latest) pieces.now) }
+        ensures ok { OnOk result (view_of self.new.latest
+            ≡ pieces_applied epoch.0 (view_of self.old.latest) pieces.now) }
         ensures goes { GoesOn self.old.latest self.new.latest }
         ensures frozen { self.new.frozen ≡ self.old.frozen }
     {
@@ -184,7 +191,8 @@ impl Blocks {
         Ok(snap)
     }
 
-    /// The store at this moment, and exactly what changed since it was frozen before. O(n log n) in what was touched since.
+    /// The store at this moment, and exactly what changed since it was frozen before. O(n log n) in what was touched
+    /// since.
     pub fn freeze_delta(&mut self) -> Result<Frozen, Memory>
         ensures snap { IfOk result (λ f. f.snap ≡ self.old.latest) }
         ensures exact { IfOk result (λ f. IsDelta (view_of self.old.frozen) (view_of self.old.latest) f.delta) }

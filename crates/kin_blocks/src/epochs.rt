@@ -56,8 +56,8 @@ impl Version {
     }
 }
 
-/// One more version for this place, where there is none yet: its stores are those of the last one. There is room for it then. It
-/// costs O(n) in the partitions.
+/// One more version for this place, where there is none yet: its stores are those of the last one. There is room for it
+/// then. It costs O(n) in the partitions.
 pub(crate) fn spare_for(
     alloc: Global,
     epochs: &mut VecDeque<Version>,
@@ -88,7 +88,8 @@ pub(crate) fn place(
     requires room { IsSome spare → deque_len epochs.old < deque_capacity epochs.old }
     requires there { at < length (reached epochs.old.items spare) }
     requires part { p.0 < length (slice_index_or (reached epochs.old.items spare) at no_version).stores }
-    requires home { (frozen.snap.part ≡ p.0) × (frozen.snap.parts ≡ length (slice_index_or (reached epochs.old.items spare) at no_version).stores) }
+    requires home { (frozen.snap.part ≡ p.0)
+        × (frozen.snap.parts ≡ length (slice_index_or (reached epochs.old.items spare) at no_version).stores) }
     ensures { epochs.new.items ≡ placed (reached epochs.old.items spare) at p.0 frozen.snap frozen.delta }
 {
     if let Some(version) = spare {

@@ -7,7 +7,8 @@ use kin_ids::{Memory, PartId, Tag, User, part_of_tag, part_of_user};
 use std::alloc::Global;
 use std::marker::Model;
 
-/// The graph at the end of an epoch: one store of each partition, in order. It never changes, and is read through `View`.
+/// The graph at the end of an epoch: one store of each partition, in order. It never changes, and is read through
+/// `View`.
 #[derive(Drop)]
 pub struct Snap {
     pub(crate) alloc: Global,

@@ -1,9 +1,12 @@
-//! A snapshot of two partitions: read, shared, and moved between threads.
+//! A snapshot of two partitions: read, shared, and moved between threads. A commit.
 
-ghost use Rattle.std.specs.Prelude.{◌≡◌, ◌<◌, All, IfOk};
+ghost use Rattle.std.specs.Prelude.{◌≡◌, ◌<◌, [], ◌∷◌, All, IfOk, OnOk, length};
 ghost use Rattle.kin_ids.specs.Operations.{op_part};
+ghost use Rattle.kin_graph.specs.State.{empty_part};
+ghost use Rattle.kin_blocks.specs.Blocks.{pieces_of, MayTake};
+ghost use Rattle.kin_blocks.specs.Versions.{first_versions};
 
-use crate::{PartSnap, Snap};
+use crate::{PartSnap, Run, Snap, Versions};
 use kin_graph::{Half, PartGraph, Steps, View};
 use kin_ids::{
     Epoch, Inc, IngestId, Numbered, Op, Ops, PartId, Piece, Place, Stamp, Tag, User, part_of_tag,
@@ -135,5 +138,61 @@ fn read_by_two_threads(rt: HostRuntime) -> Result<(), Fail> {
     assert_eq!(rt; (follower, followed), (true, true));
     let (moved, _) = thread::join(&rt, move || snap.is_vertex(User(3)), || ());
     assert!(rt; !moved);
+    Ok(())
+}
+
+// A follow within the only partition.
+fn follow(alloc: Global) -> Result<Piece, Fail>
+    ensures part { IfOk result (λ x. x.part.0 ≡ 0) }
+    ensures count { IfOk result (λ x. length x.ops ≡ 2) }
+{
+    let ops = vec![in alloc;
+        at_first(Op::AddOut(FOLLOWER, FOLLOWED)),
+        at_first(Op::AddIn(FOLLOWED, FOLLOWER)),
+    ]?;
+    Ok(piece_of(PartId(0), ops))
+}
+
+// The number of follows that an epoch brought, where it is kept.
+fn follows_new_at(versions: &Versions, epoch: Epoch) -> Option<usize> {
+    let delta = versions.deltas(epoch)?.first()?;
+    Some(delta.new_out().len())
+}
+
+// Whether the follower is a vertex at an epoch, where it is kept.
+fn follows_at(versions: &Versions, epoch: Epoch) -> Option<bool> {
+    Some(versions.snapshot(epoch)?.is_vertex(FOLLOWER))
+}
+
+// The only partition commits runs for the first time. Where memory runs out at that, the versions are as they were, and
+// it commits then.
+fn commit_first<R: Abort>(rt: &R, versions: &mut Versions, runs: &[Run]) -> Result<(), Fail>
+    requires first { versions.old ≡ first_versions 1 }
+    requires may { MayTake 1 (empty_part 0 1) (pieces_of runs.now) }
+    ensures committed { OnOk result (versions.new.committed ≡ 1 ∷ []) }
+{
+    if versions.commit(PartId(0), runs).is_ok() {
+        return Ok(());
+    }
+    assert_eq!(rt; follows_at(versions, Epoch(0)), Some(false));
+    assert_eq!(rt; follows_at(versions, Epoch(1)), None);
+    versions.commit(PartId(0), runs)?;
+    Ok(())
+}
+
+#[test]
+fn a_commit_is_kept(rt: HostRuntime) -> Result<(), Fail> {
+    let alloc = rt.alloc();
+    let mut versions = Versions::new(alloc, 1)?;
+    let pieces = [follow(alloc)?];
+    commit_first(&rt, &mut versions, &[Run::of(&pieces)])?;
+    assert_eq!(rt; versions.committed(PartId(0)), 1);
+    assert_eq!(rt; follows_at(&versions, Epoch(0)), Some(false));
+    assert_eq!(rt; follows_at(&versions, Epoch(1)), Some(true));
+    assert_eq!(rt; follows_new_at(&versions, Epoch(0)), Some(0));
+    assert_eq!(rt; follows_new_at(&versions, Epoch(1)), Some(1));
+    versions.release_below(Epoch(1));
+    assert_eq!(rt; follows_at(&versions, Epoch(0)), None);
+    assert_eq!(rt; follows_at(&versions, Epoch(1)), Some(true));
     Ok(())
 }

@@ -13,7 +13,8 @@ use std::alloc::Global;
 use std::collections::VecDeque;
 use std::marker::Model;
 
-/// A snapshot of each epoch from the first kept one on, with what the epoch changed, and each partition's store that is written.
+/// A snapshot of each epoch from the first kept one on, with what the epoch changed, and each partition's store that is
+/// written.
 #[derive(Drop)]
 pub struct Versions {
     alloc: Global,
@@ -31,8 +32,15 @@ impl Model for Versions {
 
     ghost view = { λ v. record { first = v.first; committed = v.committed.items; epochs = v.epochs.items } };
 
-    ghost invariant = { λ v. IsVersions (record { first = v.first; committed = v.committed.items; epochs = v.epochs.items })
-        × AreWritten (record { first = v.first; committed = v.committed.items; epochs = v.epochs.items }) v.writers.items };
+    ghost invariant = { λ v. IsVersions (record {
+      first = v.first;
+      committed = v.committed.items;
+      epochs = v.epochs.items;
+    }) × AreWritten (record {
+      first = v.first;
+      committed = v.committed.items;
+      epochs = v.epochs.items;
+    }) v.writers.items };
 }
 
 // A writer of each partition, with an empty store.
@@ -48,7 +56,8 @@ fn first_writers(alloc: Global, parts: u16) -> Result<Vec<Blocks>, Memory>
 
 impl Versions {
     ghost use Rattle.kin_blocks.specs.Blocks.{pieces_of, MayTake};
-    ghost use Rattle.kin_blocks.specs.Versions.{IsVersions, IsKept, CommitsNext, committed_at, deltas_at, snap_at, store_at, version_at, first_versions, released};
+    ghost use Rattle.kin_blocks.specs.Versions.{IsVersions, IsKept, CommitsNext, committed_at, deltas_at};
+    ghost use Rattle.kin_blocks.specs.Versions.{snap_at, store_at, version_at, first_versions, released};
 
     /// Epoch 0 alone, which every partition has committed, and which is empty.
     pub fn new(alloc: Global, parts: u16) -> Result<Versions, Memory>
@@ -75,12 +84,13 @@ impl Versions {
         self.committed[usize::from(p.0)]
     }
 
-    /// A partition commits the pieces of its next epoch, one run after the other. It costs what the pieces cost, and O(n) in the
-    /// partitions for the first that comes to an epoch.
+    /// A partition commits the pieces of its next epoch, one run after the other. It costs what the pieces cost, and
+    /// O(n) in the partitions for the first that comes to an epoch.
     pub fn commit(&mut self, p: PartId, runs: &[Run]) -> Result<(), Memory>
         requires part { p.0 < length self.old.committed }
         requires room { committed_at self.old p.0 < u32.MAX }
-        requires may { MayTake (committed_at self.old p.0 + 1) (store_at self.old p.0 (committed_at self.old p.0)) (pieces_of runs.now) }
+        requires may { MayTake (committed_at self.old p.0 + 1) (store_at self.old p.0 (committed_at self.old p.0))
+            (pieces_of runs.now) }
         ensures ok { OnOk result (CommitsNext self.old p.0 (pieces_of runs.now) self.new) }
         ensures err { OnErr result (self.new ≡ self.old) }
         ensures versions { IsVersions self.new }
@@ -94,8 +104,8 @@ impl Versions {
         Ok(())
     }
 
-    /// The graph at the end of an epoch. None exactly where a partition hasn't committed the epoch, or it was let go. It costs
-    /// O(n) in the partitions.
+    /// The graph at the end of an epoch. None exactly where a partition hasn't committed the epoch, or it was let go.
+    /// It costs O(n) in the partitions.
     pub fn snapshot(&self, k: Epoch) -> Option<&Snap>
         ensures kept { IsSome result ↔ IsKept self.now k.0 }
         ensures snap { IfSome result (λ s. s.now ≡ snap_at self.now k.0) }
@@ -104,8 +114,8 @@ impl Versions {
         Some(&version.snap)
     }
 
-    /// What an epoch changed, partition by partition. None exactly where a partition hasn't committed the epoch, or it was let go.
-    /// It costs O(n) in the partitions.
+    /// What an epoch changed, partition by partition. None exactly where a partition hasn't committed the epoch, or it
+    /// was let go. It costs O(n) in the partitions.
     pub fn deltas(&self, k: Epoch) -> Option<&[Delta]>
         ensures kept { IsSome result ↔ IsKept self.now k.0 }
         ensures deltas { IfSome result (λ ds. ds.now ≡ deltas_at self.now k.0) }

@@ -1,5 +1,6 @@
 -- What an epoch's pieces make of a partition's store.
-use Rattle.std.proofs.Common.{◌≡◌, ℕ, zero, suc, ◌+◌, ◌<◌, ◌≤◌, Bool, true, false, cond, eqb, List, [], ◌∷◌, ◌++◌, refl, sym, ◌∙◌, ap, subst, arith, length, get_or, take, drop}
+use Rattle.std.proofs.Common.{◌≡◌, ℕ, zero, suc, ◌+◌, ◌<◌, ◌≤◌, Bool, true, false, cond, eqb, List, [], ◌∷◌, ◌++◌, refl, sym, ◌∙◌, ap}
+use Rattle.std.proofs.Common.{subst, arith, length, get_or, take, drop}
 use Rattle.std.specs.List.{All, AllByRecursion}
 use Rattle.std.specs.Prelude.{filter}
 use Rattle.std.proofs.lemmas.Bool.{cond_both, eqb-true}
@@ -32,9 +33,11 @@ use Rattle.kin_hub.specs.Commits.{epoch_pieces}
 use Rattle.kin_hub.specs.Lines.{IsHubPiece}
 
 -- what holds of each node's pieces holds of all of the epoch's
-pub All-epoch_pieces : (P : Piece → Type 0) (held : List ChainView) (ends : List End) (n : ℕ) → ((i : ℕ) → i < n → All P (pieces_upto (end_at ends i).to (chain_at held i).held)) → All P (epoch_pieces held ends n)
+pub All-epoch_pieces : (P : Piece → Type 0) (held : List ChainView) (ends : List End) (n : ℕ)
+    → ((i : ℕ) → i < n → All P (pieces_upto (end_at ends i).to (chain_at held i).held)) → All P (epoch_pieces held ends n)
 All-epoch_pieces P held ends zero all = All-nil P
-All-epoch_pieces P held ends (suc n) all = All-append P (epoch_pieces held ends n) (pieces_upto (end_at ends n).to (chain_at held n).held) (All-epoch_pieces P held ends n (λ i lt. all i (omega arith))) (all n (omega arith))
+All-epoch_pieces P held ends (suc n) all = All-append P (epoch_pieces held ends n) (pieces_upto (end_at ends n).to (chain_at held n).held)
+    (All-epoch_pieces P held ends n (λ i lt. all i (omega arith))) (all n (omega arith))
 
 module _ (parts : ℕ) (feeds : List (List Record)) (p i : ℕ) (bases : List ℕ) (kept : ℕ) where
   abbrev Of : Piece → Type 0
@@ -44,12 +47,17 @@ module _ (parts : ℕ) (feeds : List (List Record)) (p i : ℕ) (bases : List �
   pub of-store : (s : PartState) → s.part ≡ p → s.parts ≡ parts → (x : Piece) → Of x → IsOfStore s x
   of-store s part count x of = record {
     part = of.part ∙ sym part;
-    home = subst (λ (n : ℕ). All (λ (y : Numbered). op_part n y.op ≡ s.part) x.ops) (sym count) (subst (λ (q : ℕ). All (λ (y : Numbered). op_part parts y.op ≡ q) x.ops) (sym part)
-        (subst (All (λ (y : Numbered). op_part parts y.op ≡ p)) (sym (of.fits.exact ∙ ap (λ (q : ℕ). part_ops parts q x.stamp.from (between (feed_at feeds x.stamp.ingest.0) x.stamp.from x.stamp.to)) of.part)) (part-home parts p x.stamp.from (between (feed_at feeds x.stamp.ingest.0) x.stamp.from x.stamp.to))));
+    home = subst (λ (n : ℕ). All (λ (y : Numbered). op_part n y.op ≡ s.part) x.ops) (sym count)
+        (subst (λ (q : ℕ). All (λ (y : Numbered). op_part parts y.op ≡ q) x.ops) (sym part)
+        (subst (All (λ (y : Numbered). op_part parts y.op ≡ p))
+        (sym (of.fits.exact ∙ ap (λ (q : ℕ). part_ops parts q x.stamp.from
+        (between (feed_at feeds x.stamp.ingest.0) x.stamp.from x.stamp.to)) of.part))
+        (part-home parts p x.stamp.from (between (feed_at feeds x.stamp.ingest.0) x.stamp.from x.stamp.to))));
   }
 
   has-ops : (x : Piece) → Of x → HasOps parts p (feed_at feeds i) x
-  has-ops x of = of.fits.exact ∙ (ap (λ (q : ℕ). part_ops parts q x.stamp.from (between (feed_at feeds x.stamp.ingest.0) x.stamp.from x.stamp.to)) of.part
+  has-ops x of = of.fits.exact ∙ (ap (λ (q : ℕ). part_ops parts q x.stamp.from
+      (between (feed_at feeds x.stamp.ingest.0) x.stamp.from x.stamp.to)) of.part
       ∙ ap (λ (j : ℕ). part_ops parts p x.stamp.from (between (feed_at feeds j) x.stamp.from x.stamp.to)) of.node)
 
   all-ops : (xs : List Piece) → All Of xs → AllByRecursion (HasOps parts p (feed_at feeds i)) xs
@@ -60,7 +68,8 @@ module _ (parts : ℕ) (feeds : List (List Record)) (p i : ℕ) (bases : List �
   pieces-are : (e : ℕ) (v : PartView) (xs : List Piece) → All Of xs → pieces_applied e v xs ≡ runs.pieces_applied e i v xs
   pieces-are e v [] all = refl
   pieces-are e v (x ∷ xs) all =
-      ap (λ (j : ℕ). pieces_applied e (ops_applied e j v x.ops) xs) (All-head Of x xs all).node ∙ pieces-are e (ops_applied e i v x.ops) xs (All-tail Of x xs all)
+      ap (λ (j : ℕ). pieces_applied e (ops_applied e j v x.ops) xs) (All-head Of x xs all).node ∙ pieces-are e (ops_applied e i v x.ops) xs
+      (All-tail Of x xs all)
 
   -- a run of pieces takes the part of a graph to the part of the graph after the run's records
   pub run-part : (e at to : ℕ) (xs : List Piece) (g : Graph) (v : PartView) → IsRun at xs to → All Of xs → IsPart parts p g v →
@@ -71,14 +80,21 @@ module _ (parts : ℕ) (feeds : List (List Record)) (p i : ℕ) (bases : List �
       (pieces-part parts p e i (feed_at feeds i) at xs g v run.0 (all-ops xs all) part))
 
 -- the pieces of the first n nodes, each from one position to another
-pub nodes-part : (parts : ℕ) (feeds : List (List Record)) (p e : ℕ) (held : List ChainView) (ends : List End) (was now : ℕ → ℕ) (bases : ℕ → List ℕ) (kept : ℕ → ℕ) (g : Graph) (v : PartView) (n : ℕ) →
+pub nodes-part : (parts : ℕ) (feeds : List (List Record)) (p e : ℕ) (held : List ChainView) (ends : List End) (was now : ℕ → ℕ) (bases : ℕ
+    → List ℕ) (kept : ℕ → ℕ) (g : Graph) (v : PartView) (n : ℕ) →
     ((i : ℕ) → i < n → IsRun (was i) (pieces_upto (end_at ends i).to (chain_at held i).held) (now i)) →
-    ((i : ℕ) → i < n → All (λ (x : Piece). IsHubPiece parts feeds p i (bases i) (kept i) x) (pieces_upto (end_at ends i).to (chain_at held i).held)) →
+    ((i : ℕ) → i < n → All (λ (x : Piece). IsHubPiece parts feeds p i (bases i) (kept i) x)
+    (pieces_upto (end_at ends i).to (chain_at held i).held)) →
     IsPart parts p g v → IsPart parts p (folded g (of_epoch feeds e was now n)) (pieces_applied e v (epoch_pieces held ends n))
 nodes-part parts feeds p e held ends was now bases kept g v zero runs all part = part
 nodes-part parts feeds p e held ends was now bases kept g v (suc n) runs all part =
-    let before = nodes-part parts feeds p e held ends was now bases kept g v n (λ i lt. runs i (omega arith)) (λ i lt. all i (omega arith)) part in
+    let before = nodes-part parts feeds p e held ends was now bases kept g v n (λ i lt. runs i (omega arith))
+    (λ i lt. all i (omega arith)) part in
     let more = pieces_upto (end_at ends n).to (chain_at held n).held in
-    subst (λ (graph : Graph). IsPart parts p graph (pieces_applied e v (epoch_pieces held ends (suc n)))) (sym (folded-append g (of_epoch feeds e was now n) (entries e n (was n) (between (feed_at feeds n) (was n) (now n)))))
-    (subst (λ (w : PartView). IsPart parts p (folded (folded g (of_epoch feeds e was now n)) (entries e n (was n) (between (feed_at feeds n) (was n) (now n)))) w) (sym (pieces-append e v (epoch_pieces held ends n) more))
-    (run-part parts feeds p n (bases n) (kept n) e (was n) (now n) more (folded g (of_epoch feeds e was now n)) (pieces_applied e v (epoch_pieces held ends n)) (runs n (omega arith)) (all n (omega arith)) before))
+    subst (λ (graph : Graph). IsPart parts p graph (pieces_applied e v (epoch_pieces held ends (suc n))))
+    (sym (folded-append g (of_epoch feeds e was now n) (entries e n (was n) (between (feed_at feeds n) (was n) (now n)))))
+    (subst (λ (w : PartView). IsPart parts p
+    (folded (folded g (of_epoch feeds e was now n)) (entries e n (was n) (between (feed_at feeds n) (was n) (now n)))) w)
+    (sym (pieces-append e v (epoch_pieces held ends n) more))
+    (run-part parts feeds p n (bases n) (kept n) e (was n) (now n) more (folded g (of_epoch feeds e was now n))
+    (pieces_applied e v (epoch_pieces held ends n)) (runs n (omega arith)) (all n (omega arith)) before))

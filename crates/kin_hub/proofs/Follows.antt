@@ -39,7 +39,11 @@ half p o = record {
 module _ (h : HubView) (p : PartId) (o : Op) (x : Piece) (is : x ≡ half p o) (exact : (half p o).ops ≡ part_ops 2 p.0 0 follow) where
   known : IsKnown story h x
   known = subst (IsKnown story h) (sym is) (record {
-    fits = record { formed = record { after_base = omega arith; some = omega arith; few = omega arith }; inside = omega arith; exact = exact };
+    fits = record {
+      formed = record { after_base = omega arith; some = omega arith; few = omega arith };
+      inside = omega arith;
+      exact = exact;
+    };
     inc = omega arith;
     base = refl;
   })
@@ -51,7 +55,8 @@ module _ (h : HubView) (p : PartId) (o : Op) (x : Piece) (is : x ≡ half p o) (
   places new goes s = goes story known s
 
 small : All (λ (feed : List Record). All IsSmall feed) feeds
-small = All-cons (λ (feed : List Record). All IsSmall feed) follow ([] ∷ []) (All-cons IsSmall (record_kind.Follow (record { 0 = 1 }) (record { 0 = 2 })) [] tt (All-nil IsSmall))
+small = All-cons (λ (feed : List Record). All IsSmall feed) follow ([] ∷ [])
+    (All-cons IsSmall (record_kind.Follow (record { 0 = 1 }) (record { 0 = 2 })) [] tt (All-nil IsSmall))
     (All-cons (λ (feed : List Record). All IsSmall feed) [] [] (All-nil IsSmall) (All-nil (λ (feed : List Record). All IsSmall feed)))
 
 pub small-feeds : (h : HubView) → Stands h → HasSmallFeeds h

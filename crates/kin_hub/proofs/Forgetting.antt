@@ -19,7 +19,8 @@ use Rattle.kin_hub.specs.Stands.{Story, CoreStands}
 use Rattle.kin_hub.specs.Commits.{CoreForgets}
 use Rattle.kin_hub.proofs.Holding.{ChainFor, RowFor, node-in, held-stands}
 
-module _ (parts : ℕ) (feeds : List (List Record)) (p i : ℕ) (line : List Stamp) (bases : List ℕ) (inc agreed : ℕ) (ch : ChainView) (to : ℕ) (c : IsHubChain parts feeds p i line bases inc agreed ch) (place : IsPlace ch to) (le : to ≤ agreed) where
+module _ (parts : ℕ) (feeds : List (List Record)) (p i : ℕ) (line : List Stamp) (bases : List ℕ) (inc agreed : ℕ) (ch : ChainView) (to : ℕ)
+    (c : IsHubChain parts feeds p i line bases inc agreed ch) (place : IsPlace ch to) (le : to ≤ agreed) where
   forgets-chain : IsHubChain parts feeds p i line bases inc agreed (chain_past ch to)
   forgets-chain =
       let low = end_grows ch.floor (stamps_of ch.held) to c.run.0 place in
@@ -28,8 +29,10 @@ module _ (parts : ℕ) (feeds : List (List Record)) (p i : ℕ) (line : List Sta
         floor = le;
         run = IsRun-pieces_past ch.floor to ch.top ch.held c.run place;
         reached = c.reached;
-        whole = ap (upto agreed) (stamps_of-pieces_past to ch.held) ∙ (upto_past agreed to (stamps_of ch.held) le ∙ (ap (past to) c.whole ∙ past_past ch.floor to line low));
-        ends = subst (λ (ss : List Stamp). IsEnd to ss agreed) (sym (stamps_of-pieces_past to ch.held)) (past_end ch.floor to agreed (stamps_of ch.held) c.run.0 place c.ends le);
+        whole = ap (upto agreed) (stamps_of-pieces_past to ch.held)
+            ∙ (upto_past agreed to (stamps_of ch.held) le ∙ (ap (past to) c.whole ∙ past_past ch.floor to line low));
+        ends = subst (λ (ss : List Stamp). IsEnd to ss agreed) (sym (stamps_of-pieces_past to ch.held))
+            (past_end ch.floor to agreed (stamps_of ch.held) c.run.0 place c.ends le);
         held = All-pieces_past (λ (x : Piece). IsHubPiece parts feeds p i bases ch.inc x) to ch.held c.held;
         early = c.early;
         early_inc = c.early_inc;
@@ -41,7 +44,8 @@ module _ (parts : ℕ) (feeds : List (List Record)) (p i : ℕ) (line : List Sta
     kept = r.kept;
     top = r.top;
     place = λ same. let high = r.top same in
-        subst (λ (ss : List Stamp). IsEnd to ss (get_or row.tops i 0)) (sym (stamps_of-pieces_past to ch.held)) (past_end ch.floor to (get_or row.tops i 0) (stamps_of ch.held) c.run.0 place (r.place same) (omega arith));
+        subst (λ (ss : List Stamp). IsEnd to ss (get_or row.tops i 0)) (sym (stamps_of-pieces_past to ch.held))
+        (past_end ch.floor to (get_or row.tops i 0) (stamps_of ch.held) c.run.0 place (r.place same) (omega arith));
   }
 
 -- a position to which a partition may let go of a node's pieces
@@ -50,14 +54,19 @@ pub record MayForget (c : CoreView) (vectors : ℕ → ℕ → ℕ) (p i to : �
   pub agreed : to ≤ agreed_of c.table i
   pub cut : to ≤ vectors (cuts_of c.table) i
 
-pub forget-stands : (story : Story) (old : CoreView) (s : CoreStands story old) (p : ℕ) (ends : List End) (new : CoreView) → p < story.parts →
-    ((i : ℕ) → i < length story.feeds → MayForget old story.vectors p i (end_at ends i).to) → CoreForgets old p ends new → IsCore new → CoreStands story new
+pub forget-stands : (story : Story) (old : CoreView) (s : CoreStands story old) (p : ℕ) (ends : List End) (new : CoreView) → p < story.parts
+    →
+    ((i : ℕ) → i < length story.feeds → MayForget old story.vectors p i (end_at ends i).to) → CoreForgets old p ends new → IsCore new
+    → CoreStands story new
 forget-stands story old s p ends new p_lt may f core =
     subst (CoreStands story) (sym f.2)
     (held-stands story old s p p_lt f.0
-    (λ i i_lt. subst (ChainFor story old s p i) (sym (is i i_lt)) (forgets-chain story.parts story.feeds p i (story.lines i) (story.bases i) (inc_of old.table i) (agreed_of old.table i) (chain_of old p i) (to i) (s.chains p i p_lt i_lt) (may i i_lt).place (may i i_lt).agreed))
+    (λ i i_lt. subst (ChainFor story old s p i) (sym (is i i_lt)) (forgets-chain story.parts story.feeds p i (story.lines i) (story.bases i)
+    (inc_of old.table i) (agreed_of old.table i) (chain_of old p i) (to i) (s.chains p i p_lt i_lt) (may i i_lt).place
+    (may i i_lt).agreed))
     (λ i i_lt r. subst (RowFor story old s p i) (sym (is i i_lt))
-    (forgets-row story.parts story.feeds p i (story.lines i) (story.bases i) (inc_of old.table i) (agreed_of old.table i) (chain_of old p i) (to i) (s.chains p i p_lt i_lt) (may i i_lt).place (may i i_lt).agreed (row_at old.table.rows p) (s.rows p i p_lt i_lt r)))
+    (forgets-row story.parts story.feeds p i (story.lines i) (story.bases i) (inc_of old.table i) (agreed_of old.table i) (chain_of old p i)
+    (to i) (s.chains p i p_lt i_lt) (may i i_lt).place (may i i_lt).agreed (row_at old.table.rows p) (s.rows p i p_lt i_lt r)))
     (λ i i_lt. subst (λ (ch : ChainView). ch.floor ≤ story.vectors (cuts_of old.table) i) (sym (is i i_lt)) (may i i_lt).cut)
     (subst IsCore f.2 core))
   where

@@ -24,24 +24,30 @@ module _ (story : Story) (old : CoreView) (s : CoreStands story old) (p : ℕ) (
   abbrev Row : ℕ → ℕ → RowView → Type 0
   Row q i row = IsHubRow i (inc_of old.table i) (agreed_of old.table i) (chain_of old q i) row
 
-  at_row : (q : ℕ) → row_at (set old.table.rows p (row_of (held_at old.helds p))) q ≡ cond (eqb p q) (row_of (held_at old.helds p)) (row_at old.table.rows q)
-  at_row q = get_or-set old.table.rows p q (row_of (held_at old.helds p)) (no_report 0) (let rows = s.core.parts in let count = s.parts_are in omega arith)
+  at_row : (q : ℕ) → row_at (set old.table.rows p (row_of (held_at old.helds p))) q ≡ cond (eqb p q) (row_of (held_at old.helds p))
+      (row_at old.table.rows q)
+  at_row q = get_or-set old.table.rows p q (row_of (held_at old.helds p)) (no_report 0) (let rows = s.core.parts in
+      let count = s.parts_are in omega arith)
 
   own : (i : ℕ) → i < length story.feeds → Row p i (row_of (held_at old.helds p))
   own i i_lt =
       let held = held_at old.helds p in
       let ch = s.chains p i p_lt i_lt in
       let node = node-in story old s p i p_lt i_lt in
-      let inc_is : inc_in (map kept_inc held) i ≡ (chain_of old p i).inc = ap (λ (c : Inc). c.0) (get_or-map kept_inc held i no_chain (record { 0 = 0 }) node) in
+      let inc_is : inc_in (map kept_inc held) i ≡ (chain_of old p i).inc =
+      ap (λ (c : Inc). c.0) (get_or-map kept_inc held i no_chain (record { 0 = 0 }) node) in
       let top : ChainView → ℕ = λ chain. chain.top in
       let top_is : get_or (map top held) i 0 ≡ (chain_of old p i).top = get_or-map top held i no_chain 0 node in
       record {
         kept = omega arith;
         top = λ _. let reached = ch.reached in omega arith;
-        place = λ _. rw top_is (subst (IsEnd (chain_of old p i).floor (stamps_of (chain_of old p i).held)) ch.run.1 (line-end (chain_of old p i).floor (stamps_of (chain_of old p i).held)));
+        place = λ _. rw top_is (subst (IsEnd (chain_of old p i).floor (stamps_of (chain_of old p i).held)) ch.run.1
+            (line-end (chain_of old p i).floor (stamps_of (chain_of old p i).held)));
       }
 
-  here : (q i : ℕ) → q < story.parts → i < length story.feeds → (b : Bool) → eqb p q ≡ b → (cond b (row_of (held_at old.helds p)) (row_at old.table.rows q)).reported ≡ true → Row q i (cond b (row_of (held_at old.helds p)) (row_at old.table.rows q))
+  here : (q i : ℕ) → q < story.parts → i < length story.feeds → (b : Bool) → eqb p q ≡ b
+      → (cond b (row_of (held_at old.helds p)) (row_at old.table.rows q)).reported ≡ true
+      → Row q i (cond b (row_of (held_at old.helds p)) (row_at old.table.rows q))
   here q i q_lt i_lt true e r = subst (λ (k : ℕ). Row k i (row_of (held_at old.helds p))) (eqb-true p q e) (own i i_lt)
   here q i q_lt i_lt false e r = s.rows q i q_lt i_lt r
 
@@ -52,7 +58,8 @@ module _ (story : Story) (old : CoreView) (s : CoreStands story old) (p : ℕ) (
     nodes_are = s.nodes_are;
     each_line = s.each_line;
     chains = s.chains;
-    rows = λ q i q_lt i_lt r. subst (Row q i) (sym (at_row q)) (here q i q_lt i_lt (eqb p q) refl (subst (λ (row : RowView). row.reported ≡ true) (at_row q) r));
+    rows = λ q i q_lt i_lt r. subst (Row q i) (sym (at_row q))
+        (here q i q_lt i_lt (eqb p q) refl (subst (λ (row : RowView). row.reported ≡ true) (at_row q) r));
     floors = s.floors;
     start = s.start;
     grow = s.grow;

@@ -33,7 +33,8 @@ pub record Forgets (old : List ChainView) (ends : List End) (new : List ChainVie
 
 -- the same of a partition's chains, where all else stays
 abbrev pub CoreForgets : CoreView → ℕ → List End → CoreView → Type 0
-CoreForgets old p ends new = (held : List ChainView) × Forgets (held_at old.helds p) ends held × (new ≡ record old { helds = slice_set old.helds p held })
+CoreForgets old p ends new = (held : List ChainView) × Forgets (held_at old.helds p) ends held
+    × (new ≡ record old { helds = slice_set old.helds p held })
 
 -- the pieces of partition p's next epoch, and what its store is with them
 abbrev pub next_pieces : HubView → ℕ → List Piece
@@ -73,7 +74,8 @@ AreSnapshot h k stores = (story : Story) → HubStands story h → IsViewOf (sna
 pub record AreDeltas (h : HubView) (k : ℕ) (deltas : List DeltaLists) : Type 0 where
   pub count : length deltas ≡ parts_in h
   pub tell : (story : Story) (p : ℕ) → HubStands story h → p < parts_in h →
-      Tells (parts_in h) p (snapshot story.feeds story.vectors (k - 1)) (snapshot story.feeds story.vectors k) (slice_index_or deltas p no_change)
+      Tells (parts_in h) p (snapshot story.feeds story.vectors (k - 1)) (snapshot story.feeds story.vectors k)
+      (slice_index_or deltas p no_change)
 
 -- an epoch is kept, and its stores and deltas are as they were
 pub record IsSameEpoch (old new : HubView) (k : ℕ) : Type 0 where

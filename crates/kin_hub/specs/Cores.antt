@@ -48,7 +48,8 @@ ready c i = end_of (agreed_of c.table i) (ready_run c i)
 -- a partition takes a piece, and all else stays
 abbrev pub CoreTakes : CoreView → Piece → Taken → CoreView → Type 0
 CoreTakes old x taken new =
-    (held : List ChainView) × TakesAt (held_at old.helds x.part.0) x taken held × (new ≡ record old { helds = slice_set old.helds x.part.0 held })
+    (held : List ChainView) × TakesAt (held_at old.helds x.part.0) x taken held
+    × (new ≡ record old { helds = slice_set old.helds x.part.0 held })
 
 abbrev pub kept_inc : ChainView → Inc
 kept_inc chain = record { 0 = chain.inc }
@@ -75,7 +76,8 @@ stamps_between chain from to = upto to (past from (stamps_of chain.held))
 
 -- each node's agreed stamps past the last vector, as partition 0 has them
 abbrev pub since_cut : CoreView → List (List Stamp)
-since_cut c = map (λ i. stamps_between (chain_of c 0 i) (last_of c.table i).to (agreed_of c.table i)) (range_with_len 0 (length c.table.agreed))
+since_cut c = map (λ i. stamps_between (chain_of c 0 i) (last_of c.table i).to (agreed_of c.table i))
+    (range_with_len 0 (length c.table.agreed))
 
 -- one more vector
 abbrev pub with_cut : CoreView → List End → CoreView

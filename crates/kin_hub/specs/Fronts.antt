@@ -32,4 +32,5 @@ IsFront front xs = take (length front) xs ≡ front
 pub record IsLongestFront (to : ℕ) (lists : List (List Stamp)) (front : List Stamp) : Type 0 where
   pub shared : All (λ (xs : List Stamp). IsFront front xs) lists
   pub within : All (λ (s : Stamp). s.to ≤ to) front
-  pub longest : (other : List Stamp) → All (λ (xs : List Stamp). IsFront other xs) lists → All (λ (s : Stamp). s.to ≤ to) other → length other ≤ length front
+  pub longest : (other : List Stamp) → All (λ (xs : List Stamp). IsFront other xs) lists → All (λ (s : Stamp). s.to ≤ to) other
+      → length other ≤ length front

@@ -45,7 +45,8 @@ pub record IsHubPiece (parts : ℕ) (feeds : List (List Record)) (p i : ℕ) (ba
 
 -- Partition p's chain of node i: from its floor to the agreed position it has exactly the stamps of the line there. A position past the
 -- base of an incarnation is agreed only where the chain keeps at least that incarnation.
-pub record IsHubChain (parts : ℕ) (feeds : List (List Record)) (p i : ℕ) (line : List Stamp) (bases : List ℕ) (inc agreed : ℕ) (chain : ChainView) : Type 0 where
+pub record IsHubChain (parts : ℕ) (feeds : List (List Record)) (p i : ℕ) (line : List Stamp) (bases : List ℕ) (inc agreed : ℕ)
+    (chain : ChainView) : Type 0 where
   pub kept : chain.inc ≤ inc
   pub floor : chain.floor ≤ agreed
   pub run : IsRun chain.floor chain.held chain.top

@@ -12,8 +12,8 @@ use kin_held::Held;
 use kin_ids::{End, IngestId, Memory};
 use std::alloc::Global;
 
-/// An epoch's pieces, node by node: of each node those up to its end in the epoch's vector. It costs a search by halves in the chain of
-/// each node.
+/// An epoch's pieces, node by node: of each node those up to its end in the epoch's vector. It costs a search by halves
+/// in the chain of each node.
 pub(crate) fn epoch_runs<'a>(
     alloc: Global,
     held: &'a Held,

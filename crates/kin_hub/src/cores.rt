@@ -1,6 +1,7 @@
 //! The core of a hub: the partitions' chains, and the table.
 
-ghost use Rattle.std.specs.Prelude.{◌≡◌, ◌≤◌, ◌<◌, ◌⊎◌, ◌↔◌, ℕ, All, IfOk, IfSome, OnErr, OnOk, IsErr, IsErrOf, IsNone, Some, length, map};
+ghost use Rattle.std.specs.Prelude.{◌≡◌, ◌≤◌, ◌<◌, ◌⊎◌, ◌↔◌, ℕ, All, IfOk, IfSome};
+ghost use Rattle.std.specs.Prelude.{OnErr, OnOk, IsErr, IsErrOf, IsNone, Some, length, map};
 ghost use Rattle.kin_ids.specs.declared.ops.Piece.{Piece};
 ghost use Rattle.kin_ids.specs.Operations.{IsWellFormed};
 ghost use Rattle.kin_held.specs.Chains.{ChainView};
@@ -41,12 +42,14 @@ impl Model for Core {
 impl Core {
     ghost use Rattle.kin_held.specs.Takes.{taken_of, IsPlace};
     ghost use Rattle.kin_blocks.specs.Blocks.{pieces_of};
-    ghost use Rattle.kin_table.specs.Tables.{agreed_of, inc_of, base_of, reach_of, raised_of, missing_of, cuts_of, last_of};
+    ghost use Rattle.kin_table.specs.Tables.{agreed_of, inc_of, base_of, reach_of};
+    ghost use Rattle.kin_table.specs.Tables.{raised_of, missing_of, cuts_of, last_of};
     ghost use Rattle.kin_table.specs.Vectors.{vector_at, end_at};
     ghost use Rattle.kin_table.specs.Lists.{list_at};
     ghost use Rattle.kin_table.specs.Cuts.{IsNextCut};
     ghost use Rattle.kin_hub.specs.Cuts.{HasRecords};
-    ghost use Rattle.kin_hub.specs.Cores.{CoreTakes, IsCore, held_at, chain_of, least_reach, ready, stamps_between, since_cut, with_report, with_raise, with_seal, with_cut};
+    ghost use Rattle.kin_hub.specs.Cores.{CoreTakes, IsCore, held_at, chain_of, least_reach, ready};
+    ghost use Rattle.kin_hub.specs.Cores.{stamps_between, since_cut, with_report, with_raise, with_seal, with_cut};
     ghost use Rattle.kin_hub.specs.Commits.{CoreForgets, epoch_pieces};
     ghost use Rattle.kin_hub.specs.Opens.{first_core};
 
@@ -98,8 +101,8 @@ impl Core {
         self.table.report(p, &self.incs, &self.tops);
     }
 
-    /// Up to where the agreed position of node `i` may be raised. It costs a search by halves in the chain of each partition,
-    /// and O(n) in the stamps that are new there.
+    /// Up to where the agreed position of node `i` may be raised. It costs a search by halves in the chain of each
+    /// partition, and O(n) in the stamps that are new there.
     pub fn ready(&self, i: IngestId) -> u64
         requires node { i.0 < length self.now.table.agreed }
         requires reached { (p : ℕ) → p < length self.now.table.rows

@@ -1,6 +1,7 @@
 //! The hub.
 
-ghost use Rattle.std.specs.Prelude.{◌≡◌, ◌<◌, ◌≤◌, ◌+◌, ◌⊎◌, ◌↔◌, ℕ, List, IfOk, IfSome, OnErr, OnOk, IsErr, IsErrOf, IsNone, IsSome, Some, length};
+ghost use Rattle.std.specs.Prelude.{◌≡◌, ◌<◌, ◌≤◌, ◌+◌, ◌⊎◌, ◌↔◌, ℕ, List, IfOk};
+ghost use Rattle.std.specs.Prelude.{IfSome, OnErr, OnOk, IsErr, IsErrOf, IsNone, IsSome, Some, length};
 ghost use Rattle.kin_ids.specs.declared.ops.Record.{Record};
 
 use crate::answers::CommitRefused;
@@ -37,8 +38,10 @@ impl Hub {
     ghost use Rattle.kin_table.specs.Tables.{base_of, raised_of};
     ghost use Rattle.kin_table.specs.Vectors.{vector_at};
     ghost use Rattle.kin_table.specs.Cuts.{IsNextCut};
-    ghost use Rattle.kin_hub.specs.Cores.{CoreTakes, least_reach, past_in, ready_run, ready, since_cut, with_report, with_raise, with_seal, with_cut};
-    ghost use Rattle.kin_hub.specs.Hubs.{KeepsEpoch, parts_in, nodes_in, chain_in, agreed_in, inc_in, missing_in, cuts_in, last_in, committed_in, deltas_in, snap_in};
+    ghost use Rattle.kin_hub.specs.Cores.{CoreTakes, least_reach, past_in, ready_run, ready};
+    ghost use Rattle.kin_hub.specs.Cores.{since_cut, with_report, with_raise, with_seal, with_cut};
+    ghost use Rattle.kin_hub.specs.Hubs.{KeepsEpoch, parts_in, nodes_in, chain_in, agreed_in, inc_in};
+    ghost use Rattle.kin_hub.specs.Hubs.{missing_in, cuts_in, last_in, committed_in, deltas_in, snap_in};
     ghost use Rattle.kin_blocks.specs.Versions.{released};
     ghost use Rattle.kin_hub.specs.Commits.{MayCommit, AreDeltas, AreSnapshot, Commits, KeepsSnaps, KeepsSnapsFrom};
     ghost use Rattle.kin_hub.specs.Opens.{first_hub, first_story};
@@ -59,8 +62,8 @@ impl Hub {
         })
     }
 
-    /// A partition takes a piece. After `Memory` the piece is gone. It costs O(log n) in the early pieces of the chain for itself
-    /// and for each piece that joins with it; a later incarnation costs what it drops besides.
+    /// A partition takes a piece. After `Memory` the piece is gone. It costs O(log n) in the early pieces of the chain
+    /// for itself and for each piece that joins with it; a later incarnation costs what it drops besides.
     pub fn take(&mut self, piece: Piece) -> Result<Taken, Memory>
         requires node { piece.stamp.ingest.0 < nodes_in self.old }
         requires part { piece.part.0 < parts_in self.old }
@@ -76,8 +79,8 @@ impl Hub {
         self.core.take(piece)
     }
 
-    /// Writes a partition's row anew: of each node the incarnation that its chain keeps, and its top. It costs O(n) in the nodes,
-    /// and takes no memory.
+    /// Writes a partition's row anew: of each node the incarnation that its chain keeps, and its top. It costs O(n) in
+    /// the nodes, and takes no memory.
     pub fn report(&mut self, p: PartId)
         requires { p.0 < parts_in self.old }
         ensures row { self.new ≡ record self.old { core = with_report self.old.core p.0 } }
@@ -86,9 +89,9 @@ impl Hub {
         self.core.report(p);
     }
 
-    /// Up to where the agreed position of node `i` may be raised: the end of the run past it that the chains of all partitions
-    /// share, up to the least reach. It costs a search by halves in the chain of each partition, and O(n) in the stamps that are
-    /// new there.
+    /// Up to where the agreed position of node `i` may be raised: the end of the run past it that the chains of all
+    /// partitions share, up to the least reach. It costs a search by halves in the chain of each partition, and O(n) in
+    /// the stamps that are new there.
     pub fn ready(&self, i: IngestId) -> u64
         requires { i.0 < nodes_in self.now }
         ensures end { result ≡ end_of (agreed_in self.now i.0) (ready_run self.now.core i.0) }
@@ -108,7 +111,8 @@ impl Hub {
         self.core.raise(i)
     }
 
-    /// Ends the incarnation of node `i` at the agreed position, where the next one begins. It costs O(1), and takes no memory.
+    /// Ends the incarnation of node `i` at the agreed position, where the next one begins. It costs O(1), and takes no
+    /// memory.
     pub fn seal(&mut self, i: IngestId) -> Result<End, IncarnationsSpent>
         requires { i.0 < nodes_in self.old }
         ensures spent { IsErr result ↔ (inc_in self.old i.0 ≡ u16.MAX) }
@@ -120,8 +124,8 @@ impl Hub {
         self.core.seal(i)
     }
 
-    /// The agreed stamps of node `i` past a position, which is at or past the last vector. It costs a search by halves and O(n)
-    /// in the stamps.
+    /// The agreed stamps of node `i` past a position, which is at or past the last vector. It costs a search by halves
+    /// and O(n) in the stamps.
     pub fn agreed_since(&self, i: IngestId, from: u64) -> Result<StampList, Memory>
         requires node { i.0 < nodes_in self.now }
         requires after_cut { last_in self.now i.0 ≤ from }
@@ -131,9 +135,9 @@ impl Hub {
         self.core.agreed_since(i, from)
     }
 
-    /// Cuts the next epoch: at the agreed positions, or with a number by the fair cut from the last vector on. It costs O(n) in
-    /// the partitions and the nodes, and besides in the agreed stamps past the last vector, of each node at most so many as the
-    /// number says.
+    /// Cuts the next epoch: at the agreed positions, or with a number by the fair cut from the last vector on. It costs
+    /// O(n) in the partitions and the nodes, and besides in the agreed stamps past the last vector, of each node at
+    /// most so many as the number says.
     pub fn cut(&mut self, n: Option<u64>) -> Result<Cut, CutRefused>
         requires { cuts_in self.old < u32.MAX }
         ensures not_reported { (p : PartId)
@@ -162,9 +166,9 @@ impl Hub {
         self.core.cut_of(k)
     }
 
-    /// Commits partition `p`'s next epoch: its store takes the epoch's pieces in the agreed order, node by node, and its chains let go
-    /// of them. It costs what the pieces cost, and O(n) in the nodes; the first commit of an epoch costs O(n) in the partitions besides.
-    /// After `Memory` the store is back where it was.
+    /// Commits partition `p`'s next epoch: its store takes the epoch's pieces in the agreed order, node by node, and
+    /// its chains let go of them. It costs what the pieces cost, and O(n) in the nodes; the first commit of an epoch
+    /// costs O(n) in the partitions besides. After `Memory` the store is back where it was.
     pub fn commit(&mut self, p: PartId) -> Result<Epoch, CommitRefused>
         requires part { p.0 < parts_in self.old }
         requires said { MayCommit self.old p.0 }
@@ -195,8 +199,8 @@ impl Hub {
         u64::from(self.versions.committed(p))
     }
 
-    /// The graph at the end of an epoch. None exactly where a partition hasn't committed the epoch, or it was let go. Epoch 0 is
-    /// the empty graph. It costs O(n) in the partitions.
+    /// The graph at the end of an epoch. None exactly where a partition hasn't committed the epoch, or it was let go.
+    /// Epoch 0 is the empty graph. It costs O(n) in the partitions.
     pub fn snapshot(&self, k: Epoch) -> Option<&Snap>
         ensures kept { IsSome result ↔ KeepsEpoch self.now k.0 }
         ensures snap { IfSome result (λ snap. snap.now ≡ snap_in self.now k.0) }
@@ -205,8 +209,8 @@ impl Hub {
         self.versions.snapshot(k)
     }
 
-    /// What an epoch changed, partition by partition. None exactly where a partition hasn't committed the epoch, or it was let go. Of
-    /// epoch 0 they are empty. It costs O(n) in the partitions.
+    /// What an epoch changed, partition by partition. None exactly where a partition hasn't committed the epoch, or it
+    /// was let go. Of epoch 0 they are empty. It costs O(n) in the partitions.
     pub fn deltas(&self, k: Epoch) -> Option<&[Delta]>
         ensures kept { IsSome result ↔ KeepsEpoch self.now k.0 }
         ensures deltas { IfSome result (λ deltas. deltas.now ≡ deltas_in self.now k.0) }
@@ -215,8 +219,8 @@ impl Hub {
         self.versions.deltas(k)
     }
 
-    /// Lets go of every epoch below one that all partitions have committed. No other call lets go of one. It costs O(n) in what it
-    /// lets go, and takes no memory.
+    /// Lets go of every epoch below one that all partitions have committed. No other call lets go of one. It costs O(n)
+    /// in what it lets go, and takes no memory.
     pub fn release_below(&mut self, k: Epoch)
         requires { (p : ℕ) → p < parts_in self.old → k.0 ≤ committed_in self.old p }
         ensures released { self.new ≡ record self.old { versions = released self.old.versions k.0 } }

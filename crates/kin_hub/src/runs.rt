@@ -11,8 +11,8 @@ ghost use Rattle.kin_hub.specs.Cores.{past_in, stamps_between};
 use kin_held::Held;
 use kin_ids::{IngestId, Piece};
 
-/// The end of the run of pieces past a position that all partitions share, up to another. It costs a search by halves in the
-/// chain of each partition, and O(n) in the pieces between the two.
+/// The end of the run of pieces past a position that all partitions share, up to another. It costs a search by halves
+/// in the chain of each partition, and O(n) in the pieces between the two.
 pub(crate) fn shared_end(helds: &[Held], i: IngestId, at: u64, to: u64) -> u64
     requires ahead { at ≤ to }
     requires some { 0 < length helds.now }

@@ -1,6 +1,6 @@
 //! One follow on its way through a hub of two nodes and two partitions.
 
-ghost use Rattle.std.specs.Prelude.{◌≡◌, [], ◌∷◌, IfOk, OnOk};
+ghost use Rattle.std.specs.Prelude.{◌≡◌, ◌<◌, [], ◌∷◌, IfOk, OnOk};
 ghost use Rattle.kin_table.specs.Tables.{first_table};
 ghost use Rattle.kin_hub.specs.Hubs.{parts_in};
 ghost use Rattle.kin_hub.specs.Commits.{HasSmallFeeds};
@@ -78,6 +78,45 @@ fn hub_with_cuts<R: Abort + AllocGlobal>(rt: &R) -> Result<Hub, Fail>
     Ok(hub)
 }
 
+// What is seen of a hub while its first two epochs are committed.
+#[derive(Clone, Copy, Debug, PartialEq, Eq)]
+struct Progress {
+    cuts: u64,
+    committed: (u64, u64),
+    follows: (Option<bool>, Option<bool>),
+    new: (Option<usize>, Option<usize>),
+}
+
+fn progress_of(hub: &Hub) -> Progress
+    requires { parts_in hub.now ≡ 2 }
+{
+    Progress {
+        cuts: hub.cuts(),
+        committed: (hub.committed(PartId(0)), hub.committed(PartId(1))),
+        follows: (follows_at(hub, Epoch(1)), follows_at(hub, Epoch(2))),
+        new: (follows_new_at(hub, Epoch(1)), follows_new_at(hub, Epoch(2))),
+    }
+}
+
+// A partition commits its next epoch, which is this one. Where memory runs out at that, the hub is as it was, and the
+// partition commits then.
+fn assert_commit<R: Abort>(rt: &R, hub: &mut Hub, part: PartId, epoch: Epoch) -> Result<(), Fail>
+    requires part { part.0 < parts_in hub.old }
+    requires parts { parts_in hub.old ≡ 2 }
+    requires small { HasSmallFeeds hub.old }
+    ensures parts { OnOk result (parts_in hub.new ≡ 2) }
+    ensures small { OnOk result (HasSmallFeeds hub.new) }
+{
+    let before = progress_of(hub);
+    if let Ok(next) = hub.commit(part) {
+        assert_eq!(rt; next, epoch);
+        return Ok(());
+    }
+    assert_eq!(rt; progress_of(hub), before);
+    assert_eq!(rt; hub.commit(part)?, epoch);
+    Ok(())
+}
+
 // Both partitions commit their next epoch, which is this one.
 fn assert_commits<R: Abort>(rt: &R, hub: &mut Hub, epoch: Epoch) -> Result<(), Fail>
     requires parts { parts_in hub.old ≡ 2 }
@@ -85,9 +124,9 @@ fn assert_commits<R: Abort>(rt: &R, hub: &mut Hub, epoch: Epoch) -> Result<(), F
     ensures parts { OnOk result (parts_in hub.new ≡ 2) }
     ensures small { OnOk result (HasSmallFeeds hub.new) }
 {
-    assert_eq!(rt; hub.commit(PartId(0))?, epoch);
+    assert_commit(rt, hub, PartId(0), epoch)?;
     assert!(rt; hub.snapshot(epoch).is_none());
-    assert_eq!(rt; hub.commit(PartId(1))?, epoch);
+    assert_commit(rt, hub, PartId(1), epoch)?;
     assert!(rt; hub.snapshot(epoch).is_some());
     Ok(())
 }

@@ -14,4 +14,5 @@ loop-i-preserved c =
     let items : c.push.new.self.items ≡ c.loop-i.runs.items ++ c.of.result ∷ [] = search rules in
     let run : c.of.result ≡ more = search rules in
     let next : suc i ≡ i + 1 = omega arith in
-    ap pieces_of items ∙ (pieces_of-push c.loop-i.runs.items c.of.result ∙ (ap₂ (λ (xs ys : List Piece). xs ++ ys) c.loop-i.invariant run ∙ ap (epoch_pieces c.args.held.now c.args.ends.now) next))
+    ap pieces_of items ∙ (pieces_of-push c.loop-i.runs.items c.of.result ∙ (ap₂ (λ (xs ys : List Piece). xs ++ ys) c.loop-i.invariant run
+    ∙ ap (epoch_pieces c.args.held.now c.args.ends.now) next))

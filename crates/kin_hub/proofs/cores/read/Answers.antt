@@ -5,7 +5,8 @@ use Rattle.kin_hub.specs.Cores.{kept_inc}
 use Rattle.kin_hub.proofs.cores.read.Goals as goal
 
 pub returns-clause-incs : goal.returns-clause-incs
-returns-clause-incs c = ext_get_or (record { 0 = 0 }) c.loop-i.incs (map kept_inc c.args.held.now) (omega (arith, length-map c.args.held.now kept_inc))
+returns-clause-incs c = ext_get_or (record { 0 = 0 }) c.loop-i.incs (map kept_inc c.args.held.now)
+    (omega (arith, length-map c.args.held.now kept_inc))
     (λ k lt. c.loop-i.invariant.incs k (omega arith) ∙ sym (get_or-map kept_inc c.args.held.now k no_chain _ (omega arith)))
 
 pub returns-clause-tops : goal.returns-clause-tops

@@ -9,7 +9,8 @@ use Rattle.kin_hub.proofs.runs.between.Goals as goal
 starts_within : (c : goal.After-count_upto-2) → c.count_upto-2.result ≤ length (take c.count_upto.result c.chain.result.now)
 starts_within c =
     let ps = (chain_at c.args.held.now c.args.i.0).held in
-    let more : c.count_upto-2.result ≤ c.count_upto.result = (cut_lengths c.args.at c.args.to c.count_upto-2.result c.count_upto.result ps c.requires.ahead
+    let more : c.count_upto-2.result ≤ c.count_upto.result =
+    (cut_lengths c.args.at c.args.to c.count_upto-2.result c.count_upto.result ps c.requires.ahead
     c.count_upto-2.ensures.front c.count_upto.ensures.front c.count_upto-2.ensures.within c.count_upto.ensures.within).1 in
     let whole : length c.chain.result.now ≡ length ps = ap length c.chain.ensures.held in
     let within : c.count_upto.result ≤ length ps = c.count_upto.ensures.within in

@@ -5,4 +5,5 @@ use Rattle.kin_held.proofs.Pieces.{stamps_of-pieces_past}
 use Rattle.kin_hub.proofs.runs.past.Goals as goal
 
 pub returns : goal.returns
-returns c = rw c.chain.ensures.held (ap stamps_of (take_rest _ c.count_upto.result ∙ c.count_upto.ensures.rest) ∙ stamps_of-pieces_past c.args.at _)
+returns c = rw c.chain.ensures.held (ap stamps_of (take_rest _ c.count_upto.result ∙ c.count_upto.ensures.rest)
+    ∙ stamps_of-pieces_past c.args.at _)

@@ -9,13 +9,15 @@ use Rattle.kin_hub.proofs.Fronts.{shared-first, shared-next, common_run, length-
 use Rattle.kin_hub.proofs.runs.shared_end.Goals as goal
 
 pub loop-held-init : goal.loop-held-init
-loop-held-init c = rw (c.between-run.ensures, c.index-helds-0.is) (shared-first c.args.helds.now c.args.at c.args.to c.args.i.0 _ c.requires.some)
+loop-held-init c = rw (c.between-run.ensures, c.index-helds-0.is)
+    (shared-first c.args.helds.now c.args.at c.args.to c.args.i.0 _ c.requires.some)
 
 others-is : (c : goal.After-held-item) → c.held-item.result ≡ get_or (drop 1 c.args.helds.now) c.loop-held.held-index c.held-item.result
 others-is c = c.held-item.is ∙ ap (λ hs. get_or hs c.loop-held.held-index c.held-item.result) (take_rest c.args.helds.now 1)
 
 others-in : (c : goal.After-held-item) → c.loop-held.held-index < length (drop 1 c.args.helds.now)
-others-in c = subst (λ (hs : List (List ChainView)). c.loop-held.held-index < length hs) (take_rest c.args.helds.now 1) c.loop-held-test.true
+others-in c = subst (λ (hs : List (List ChainView)). c.loop-held.held-index < length hs)
+    (take_rest c.args.helds.now 1) c.loop-held-test.true
 
 pub past-requires : goal.past-requires
 past-requires c = rw (others-is c ∙ get_or-drop 1 c.args.helds.now c.loop-held.held-index c.held-item.result)
@@ -23,7 +25,15 @@ past-requires c = rw (others-is c ∙ get_or-drop 1 c.args.helds.now c.loop-held
 
 pub slice_bounds-run-end : goal.slice_bounds-run-end
 slice_bounds-run-end c =
-    let short : c.common_len.result ≤ length c.loop-held.run.now = omega (arith, c.common_len.ensures, length-take_while c.loop-held.run.now c.past.result.now, length-common (stamps_of c.loop-held.run.now) (stamps_of c.past.result.now), length-stamps_of c.loop-held.run.now) in
+    let short : c.common_len.result ≤ length c.loop-held.run.now =
+    omega (
+      arith,
+      c.common_len.ensures,
+      length-take_while c.loop-held.run.now c.past.result.now,
+      length-common
+          (stamps_of c.loop-held.run.now) (stamps_of c.past.result.now),
+      length-stamps_of c.loop-held.run.now,
+    ) in
     omega (arith, length-take c.common_len.result c.loop-held.run.now)
 
 pub loop-held-preserved : goal.loop-held-preserved
@@ -33,7 +43,8 @@ loop-held-preserved c =
     let i = c.args.i.0 in
     let k = c.loop-held.held-index in
     let run = c.loop-held.run.now in
-    let front : stamps_of (take c.common_len.result run) ≡ common (stamps_of run) (past at (stamps_of (chain_at (get_or items k c.held-item.result) i).held)) =
+    let front : stamps_of (take c.common_len.result run) ≡ common (stamps_of run)
+    (past at (stamps_of (chain_at (get_or items k c.held-item.result) i).held)) =
     ap (λ n. stamps_of (take n run)) c.common_len.ensures ∙ (common_run run c.past.result.now
     ∙ ap (common (stamps_of run)) (c.past.ensures ∙ ap (λ held. past at (stamps_of (chain_at held i).held)) c.held-item.is)) in
     ap (λ xs. common_with xs (past_in (drop (k + 1) items) at i)) front

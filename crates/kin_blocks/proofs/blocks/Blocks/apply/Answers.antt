@@ -9,5 +9,6 @@ pub invariant_of-self-2 : goal.invariant_of-self-2
 invariant_of-self-2 c =
     let v : BlocksView = record { latest = c.self.inside.graph; frozen = c.self.inside.frozen } in
     let noted : HasNoted c.args.piece.now.ops c.note.new.self = rw (← c.as_slice.ensures) c.in_ok-note.ensures.ok in
-    writer-tried c.apply.result v c.apply.new.self c.self.inside.touched c.note.new.self c.args.piece.now.ops c.self.invariant c.note.ensures.kept noted c.apply.ensures.same
+    writer-tried c.apply.result v c.apply.new.self c.self.inside.touched c.note.new.self c.args.piece.now.ops c.self.invariant
+    c.note.ensures.kept noted c.apply.ensures.same
     c.apply.ensures.stays c.apply.ensures.others c.apply.ensures.err

@@ -17,16 +17,21 @@ loop-store-preserved c =
     let i : ℕ = c.loop-store.store-index in
     let below : i < length stores = omega arith in
     let item : c.store-item.result ≡ get_or stores i c.store-item.result = cc in
-    let Q : Type 0 = (t : List ℕ) → list_any (same_tag t) c.extend.new.self.keys ≡ (list_any (same_tag t) c.loop-store.tags.keys || list_any (same_tag t) c.in_ok-tags.field-0.items) in
+    let Q : Type 0 = (t : List ℕ) → list_any (same_tag t) c.extend.new.self.keys
+    ≡ (list_any (same_tag t) c.loop-store.tags.keys || list_any (same_tag t) c.in_ok-tags.field-0.items) in
     let put : OnOk c.extend.result Q =
-    fact_from_extend (λ x. x) c.extend.result c.extend.ensures.ran (λ it b. YieldsList-from_vec {s = it} _ b.0 (b.1 ∙ c.in_ok-tags.field-0.ok.0))
-    (λ xs e h t. h.0 t ∙ ap (λ (ys : List (List ℕ)). (list_any (same_tag t) c.loop-store.tags.keys || list_any (same_tag t) ys)) (sym (map-id xs) ∙ e)) in
+    fact_from_extend (λ x. x) c.extend.result c.extend.ensures.ran
+    (λ it b. YieldsList-from_vec {s = it} _ b.0 (b.1 ∙ c.in_ok-tags.field-0.ok.0))
+    (λ xs e h t. h.0 t ∙ ap (λ (ys : List (List ℕ)). (list_any (same_tag t) c.loop-store.tags.keys || list_any (same_tag t) ys))
+    (sym (map-id xs) ∙ e)) in
     let all : Q = subst (λ r. OnOk r Q) c.in_ok-extend.was put in
     record {
       has = λ t.
-          all t ∙ (ap₂ (λ (a b : Bool). a || b) (c.loop-store.invariant.has t) (c.in_ok-tags.ensures.in_use t ∙ ap (λ (s : PartState). is_in_use (view_of s) t) item)
+          all t ∙ (ap₂ (λ (a b : Bool). a || b) (c.loop-store.invariant.has t) (c.in_ok-tags.ensures.in_use t
+          ∙ ap (λ (s : PartState). is_in_use (view_of s) t) item)
           ∙ sym (list_any_more (λ s. is_in_use (view_of s) t) stores i c.store-item.result below));
-      home = below_more (λ (k : ℕ). LivesHere (state_at stores k)) i c.loop-store.invariant.home (subst LivesHere (item ∙ get_or_default stores i c.store-item.result (empty_part 0 0) below) c.part.ensures.home);
+      home = below_more (λ (k : ℕ). LivesHere (state_at stores k)) i c.loop-store.invariant.home
+          (subst LivesHere (item ∙ get_or_default stores i c.store-item.result (empty_part 0 0) below) c.part.ensures.home);
     }
 
 pub returns-clause-in_use : goal.returns-clause-in_use
@@ -37,4 +42,6 @@ returns-clause-in_use c =
     let home : (k : ℕ) → k < length stores → LivesHere (state_at stores k) = λ k h. c.loop-store.invariant.home k (omega arith) in
     let P : List PartState → Type 0 = λ ss. (t : List ℕ) → list_any (same_tag t) c.in_ok-tags-2.tags.items ≡ is_in_use (joined ss) t in
     subst P c.self.view_is
-    (λ t. rw items (c.loop-store.invariant.has t ∙ (ap (λ (ss : List PartState). list_any (λ s. is_in_use (view_of s) t) ss) (take_all c.loop-store.store-index stores end) ∙ any-use stores c.self.invariant home t)))
+    (λ t. rw items (c.loop-store.invariant.has t
+    ∙ (ap (λ (ss : List PartState). list_any (λ s. is_in_use (view_of s) t) ss) (take_all c.loop-store.store-index stores end)
+    ∙ any-use stores c.self.invariant home t)))

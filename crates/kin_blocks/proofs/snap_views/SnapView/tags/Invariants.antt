@@ -8,6 +8,7 @@ use Rattle.kin_blocks.proofs.snap_views.SnapView.tags.Given as goal
 
 abbrev pub invariant-loop-store : goal.invariant-loop-store
 invariant-loop-store l = record {
-  has : (t : List ℕ) → list_any (same_tag t) l.tags.keys ≡ list_any (λ s. is_in_use (view_of s) t) (take l.store-index l.self-inside.stores.items);
+  has : (t : List ℕ) → list_any (same_tag t) l.tags.keys ≡ list_any (λ s. is_in_use (view_of s) t)
+      (take l.store-index l.self-inside.stores.items);
   home : (k : ℕ) → k < l.store-index → LivesHere (state_at l.self-inside.stores.items k);
 }

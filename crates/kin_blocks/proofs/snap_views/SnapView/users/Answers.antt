@@ -18,16 +18,20 @@ loop-store-preserved c =
     let i : ℕ = c.loop-store.store-index in
     let below : i < length stores = omega arith in
     let item : c.store-item.result ≡ get_or stores i c.store-item.result = cc in
-    let Q : Type 0 = (u : User) → has_user c.extend.new.self.keys u ≡ (has_user c.loop-store.users.keys u || has_user c.in_ok-users.field-0.items u) in
+    let Q : Type 0 = (u : User) → has_user c.extend.new.self.keys u
+    ≡ (has_user c.loop-store.users.keys u || has_user c.in_ok-users.field-0.items u) in
     let put : OnOk c.extend.result Q =
-    fact_from_extend (λ x. x) c.extend.result c.extend.ensures.ran (λ it b. YieldsList-from_vec {s = it} _ b.0 (b.1 ∙ c.in_ok-users.field-0.ok.0))
+    fact_from_extend (λ x. x) c.extend.result c.extend.ensures.ran
+    (λ it b. YieldsList-from_vec {s = it} _ b.0 (b.1 ∙ c.in_ok-users.field-0.ok.0))
     (λ xs e h u. h.0 u ∙ ap (λ (ys : List User). (has_user c.loop-store.users.keys u || has_user ys u)) (sym (map-id xs) ∙ e)) in
     let all : Q = subst (λ r. OnOk r Q) c.in_ok-extend.was put in
     record {
       has = λ u.
-          all u ∙ (ap₂ (λ (a b : Bool). a || b) (c.loop-store.invariant.has u) (c.in_ok-users.ensures.vertices u ∙ ap (λ (s : PartState). is_vertex (view_of s) u) item)
+          all u ∙ (ap₂ (λ (a b : Bool). a || b) (c.loop-store.invariant.has u) (c.in_ok-users.ensures.vertices u
+          ∙ ap (λ (s : PartState). is_vertex (view_of s) u) item)
           ∙ sym (list_any_more (λ s. is_vertex (view_of s) u) stores i c.store-item.result below));
-      home = below_more (λ (k : ℕ). LivesHere (state_at stores k)) i c.loop-store.invariant.home (subst LivesHere (item ∙ get_or_default stores i c.store-item.result (empty_part 0 0) below) c.part.ensures.home);
+      home = below_more (λ (k : ℕ). LivesHere (state_at stores k)) i c.loop-store.invariant.home
+          (subst LivesHere (item ∙ get_or_default stores i c.store-item.result (empty_part 0 0) below) c.part.ensures.home);
     }
 
 pub returns-clause-vertices : goal.returns-clause-vertices
@@ -38,4 +42,6 @@ returns-clause-vertices c =
     let home : (k : ℕ) → k < length stores → LivesHere (state_at stores k) = λ k h. c.loop-store.invariant.home k (omega arith) in
     let P : List PartState → Type 0 = λ ss. (u : User) → has_user c.in_ok-users-2.users.items u ≡ is_vertex (joined ss) u in
     subst P c.self.view_is
-    (λ u. rw items (c.loop-store.invariant.has u ∙ (ap (λ (ss : List PartState). list_any (λ s. is_vertex (view_of s) u) ss) (take_all c.loop-store.store-index stores end) ∙ any-vertex stores c.self.invariant home u)))
+    (λ u. rw items (c.loop-store.invariant.has u
+    ∙ (ap (λ (ss : List PartState). list_any (λ s. is_vertex (view_of s) u) ss) (take_all c.loop-store.store-index stores end)
+    ∙ any-vertex stores c.self.invariant home u)))

@@ -16,5 +16,6 @@ pub invariant_of-result : goal.invariant_of-result
 invariant_of-result c =
     let first : ℕ → List PartState = λ n. map (λ (p : ℕ). empty_part p c.args.parts) (range_with_len 0 n) in
     let end : c.loop-p.p ≡ c.args.parts = omega arith in
-    let all : c.loop-p.stores.items ≡ empty_stores c.args.parts = subst (λ (n : ℕ). c.loop-p.stores.items ≡ first n) end c.loop-p.invariant in
+    let all : c.loop-p.stores.items ≡ empty_stores c.args.parts =
+    subst (λ (n : ℕ). c.loop-p.stores.items ≡ first n) end c.loop-p.invariant in
     rw all (empty-snap c.args.parts c.requires c.ranges.parts.fits)

@@ -16,7 +16,8 @@ pub cut-requires-clause-lists : goal.cut-requires-clause-lists
 cut-requires-clause-lists c =
     let now = c.args.self.now in
     let f : ℕ → List Stamp = λ i. stamps_between (chain_of now 0 i) (last_of now.table i).to (agreed_of now.table i) in
-    ap length (c.deref.ensures.value ∙ c.in_ok-lists.ensures) ∙ (length-map (since_cut now) (front_for {A = Stamp} c.args.n) ∙ (length-map-range_with_len f 0 (length now.table.agreed) ∙ ap (λ (v : CoreView). length v.table.agreed) (sym c.self.view_is)))
+    ap length (c.deref.ensures.value ∙ c.in_ok-lists.ensures) ∙ (length-map (since_cut now) (front_for {A = Stamp} c.args.n)
+    ∙ (length-map-range_with_len f 0 (length now.table.agreed) ∙ ap (λ (v : CoreView). length v.table.agreed) (sym c.self.view_is)))
 
 pub returns-clause-cut : goal.returns-clause-cut
 returns-clause-cut c =
@@ -28,4 +29,5 @@ returns-clause-cut c =
     (subst (λ (ls : List (List Stamp)). IfOk c.cut.result (IsNextCut c.self.inside.table c.args.n ls)) lists c.cut.ensures.cut))
 
 pub returns-clause-not_reported : goal.returns-clause-not_reported
-returns-clause-not_reported c = subst (λ (v : CoreView). (p : PartId) → IsErrOf c.cut.result (refused.NotReported p) ↔ (missing_of v.table ≡ Some p.0)) c.self.view_is c.cut.ensures.not_reported
+returns-clause-not_reported c = subst (λ (v : CoreView). (p : PartId) → IsErrOf c.cut.result (refused.NotReported p) ↔
+    (missing_of v.table ≡ Some p.0)) c.self.view_is c.cut.ensures.not_reported

@@ -23,4 +23,5 @@ returns c =
     let now = c.args.self.now in
     let g : ℕ → List Stamp = λ i. stamps_between (chain_of now 0 i) (last_of now.table i).to (agreed_of now.table i) in
     let count : c.loop-i.i ≡ length now.table.agreed = search rules in
-    c.loop-i.invariant ∙ (ap (λ (n : ℕ). map (λ i. front_for c.args.n (g i)) (range_with_len 0 n)) count ∙ sym (map-map (front_for {A = Stamp} c.args.n) g (range_with_len 0 (length now.table.agreed))))
+    c.loop-i.invariant ∙ (ap (λ (n : ℕ). map (λ i. front_for c.args.n (g i)) (range_with_len 0 n)) count
+    ∙ sym (map-map (front_for {A = Stamp} c.args.n) g (range_with_len 0 (length now.table.agreed))))

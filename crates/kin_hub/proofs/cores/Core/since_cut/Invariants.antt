@@ -8,4 +8,5 @@ use Rattle.kin_hub.proofs.cores.Core.since_cut.Given as goal
 
 abbrev pub invariant-loop-i : goal.invariant-loop-i
 invariant-loop-i l =
-    l.lists.items ≡ map (λ i. front_for l.n (stamps_between (chain_of l.self 0 i) (last_of l.self.table i).to (agreed_of l.self.table i))) (range_with_len 0 l.i)
+    l.lists.items ≡ map (λ i. front_for l.n (stamps_between (chain_of l.self 0 i) (last_of l.self.table i).to (agreed_of l.self.table i)))
+    (range_with_len 0 l.i)

@@ -25,15 +25,20 @@ next : (c : goal.After-cut) → IfOk c.cut.result (IsNextCut c.args.self.now.cor
 next c = subst (λ (h : HubView). IfOk c.cut.result (IsNextCut h.core.table c.args.n (since_cut h.core))) c.self.view_is c.cut.ensures.cut
 
 appended : (c : goal.After-cut) → IfOk c.cut.result (λ cut. c.cut.new.self ≡ with_cut c.args.self.now.core cut.ends)
-appended c = subst (λ (h : HubView). IfOk c.cut.result (λ cut. c.cut.new.self ≡ with_cut h.core cut.ends)) c.self.view_is c.cut.ensures.appended
+appended c = subst (λ (h : HubView). IfOk c.cut.result (λ cut. c.cut.new.self ≡ with_cut h.core cut.ends)) c.self.view_is
+    c.cut.ensures.appended
 
 pub invariant_of-self : goal.invariant_of-self
-invariant_of-self c = subst (λ (v : VersionsView). HasStory (record { core = c.cut.new.self; versions = v })) (stays c) (cut-some c.args.self.now c.args.n c.cut.new.self c.cut.ensures.core c.cut.result (next c) (appended c)
-    (subst (λ (h : HubView). OnErr c.cut.result (c.cut.new.self ≡ h.core)) c.self.view_is c.cut.ensures.err) (subst HasStory c.self.view_is c.self.invariant))
+invariant_of-self c = subst (λ (v : VersionsView). HasStory (record { core = c.cut.new.self; versions = v })) (stays c)
+    (cut-some c.args.self.now c.args.n c.cut.new.self c.cut.ensures.core c.cut.result (next c) (appended c)
+    (subst (λ (h : HubView). OnErr c.cut.result (c.cut.new.self ≡ h.core)) c.self.view_is c.cut.ensures.err)
+    (subst HasStory c.self.view_is c.self.invariant))
 
 pub returns-clause-stands : goal.returns-clause-stands
-returns-clause-stands c = subst (λ (v : VersionsView). OnOk c.cut.result (HubCuts c.args.self.now c.args.n (record { core = c.cut.new.self; versions = v }))) (stays c)
+returns-clause-stands c = subst (λ (v : VersionsView). OnOk c.cut.result
+    (HubCuts c.args.self.now c.args.n (record { core = c.cut.new.self; versions = v }))) (stays c)
     (cut-result c.args.self.now c.args.n c.cut.new.self c.cut.ensures.core c.cut.result (next c) (appended c))
 
 pub returns-clause-not_reported : goal.returns-clause-not_reported
-returns-clause-not_reported c = subst (λ (h : HubView). (p : PartId) → IsErrOf c.cut.result (refused.NotReported p) ↔ (missing_in h ≡ Some p.0)) c.self.view_is c.cut.ensures.not_reported
+returns-clause-not_reported c = subst (λ (h : HubView). (p : PartId) → IsErrOf c.cut.result (refused.NotReported p) ↔
+    (missing_in h ≡ Some p.0)) c.self.view_is c.cut.ensures.not_reported

@@ -12,4 +12,5 @@ pub returns-clause-whole : goal.returns-clause-whole
 returns-clause-whole c =
     let was : HubView = record { core = c.self.inside.core; versions = c.self.inside.versions } in
     if_some c.deltas.result _ _ (λ some deltas is. subst (λ (h : HubView). AreDeltas h c.args.k.0 deltas.now) c.self.view_is
-    (subst (AreDeltas was c.args.k.0) (sym is) (kept-deltas was c.args.k.0 c.self.invariant (c.deltas.ensures.kept.0 some)))) c.deltas.ensures.deltas
+    (subst (AreDeltas was c.args.k.0) (sym is) (kept-deltas was c.args.k.0 c.self.invariant (c.deltas.ensures.kept.0 some))))
+    c.deltas.ensures.deltas

@@ -15,4 +15,5 @@ invariant_of-result c =
     (opens-some c.args.nodes c.args.parts (subst IsCore core.value core.core) (subst IsVersions versions.value versions.versions)))
 
 pub returns-clause-stands : goal.returns-clause-stands
-returns-clause-stands c = λ feeds count. opens c.args.nodes c.args.parts c.in_ok-new.field-0 c.in_ok-new-2.field-0 c.in_ok-new.ensures.core c.in_ok-new.ensures.value c.in_ok-new-2.ensures.versions c.in_ok-new-2.ensures.value feeds count
+returns-clause-stands c = λ feeds count. opens c.args.nodes c.args.parts c.in_ok-new.field-0 c.in_ok-new-2.field-0 c.in_ok-new.ensures.core
+    c.in_ok-new.ensures.value c.in_ok-new-2.ensures.versions c.in_ok-new-2.ensures.value feeds count
