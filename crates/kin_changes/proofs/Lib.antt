@@ -1,0 +1,11 @@
+pub mod Wholes
+pub mod Grown
+pub mod Mentioned
+pub mod Led
+pub mod Homes
+pub mod Edges
+pub mod Members
+pub mod Spreads
+pub mod Counts
+pub mod Orders
+pub mod Searched
