@@ -53,7 +53,7 @@ module _ {K : Type 0} {cmp : K → K → Ordering} (o : IsExact cmp) where
   greater-less a b h = o.total.antisymm b a ∙ ap ordering_reverse h
 
   -- an equal key was found there
-  found-there : (keys : List K) (key : K) (i : ℕ) → IsStrictlySortedBy cmp keys → i < length keys → get_or keys i key ≡ key → StandsAt cmp keys key i
+  pub found-there : (keys : List K) (key : K) (i : ℕ) → IsStrictlySortedBy cmp keys → i < length keys → get_or keys i key ≡ key → StandsAt cmp keys key i
   found-there keys key i sorted lt is = record {
     one = list_any_at (is_at (cmp key)) keys i key lt (subst (λ (k : K). same key k ≡ true) (sym is) (same-self key));
     place = position_or_len_is (is_at (cmp key)) keys i key (omega (arith, lt)) before (λ _. subst (λ (k : K). same key k ≡ true) (sym is) (same-self key));

@@ -31,4 +31,5 @@ pub mod ColumnReads
 pub mod ResultReads
 pub mod ScratchReads
 pub mod ResultSets
+pub mod WiderResults
 pub mod ExposureSteps

@@ -60,7 +60,7 @@ place-new (u ∷ us) y h = here (place-new us y) (same_user y u) h
 pub put-place : (old new : List User) (y : User) (n : ℕ) → new ≡ old ++ y ∷ [] → n ≡ length old → has_user old y ≡ false → n ≡ place new y
 put-place old new y n grown end none = end ∙ sym (place-new old y none) ∙ ap (λ (us : List User). place us y) (sym grown)
 
-same-number : (x u : User) → eqb x.0 u.0 ≡ same_user x u
+pub same-number : (x u : User) → eqb x.0 u.0 ≡ same_user x u
 same-number x u = grind (arith, nat_tests)
 
 pub place-is : (us : List User) (x : User) → position_or_len (eqb x.0) (map (λ (u : User). u.0) us) ≡ place us x

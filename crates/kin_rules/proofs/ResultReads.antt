@@ -34,7 +34,7 @@ tag-in-use (s ∷ ts) (n ∷ ns) t long some = here (same_tag t s) (tag-in-use t
     here true old = let up : 0 < n = some 0 0 (omega arith) in grind (arith, nat_tests, up)
     here false old = old ∙ ap (λ (m : ℕ). nat_lt 0 (get_or (n ∷ ns) m 0)) (let e : suc (tag_place ts t) ≡ Rattle.std.proofs.Common.◌+◌ 1 (tag_place ts t) = omega arith in e)
 
-sorted-nil : {K : Type 0} (c : K → K → Ordering) → IsStrictlySortedBy c []
+pub sorted-nil : {K : Type 0} (c : K → K → Ordering) → IsStrictlySortedBy c []
 unfolding IsStrictlySortedBy
 sorted-nil c = tt
 

@@ -26,6 +26,10 @@ HasRoom columns = All (λ (c : Column). vec_len c.values < vec_capacity c.values
 abbrev pub widened : ℕ → User → ColumnView → ColumnView
 widened at u c = record c { values = insert c.values at (lookup (same_user u) c.others) }
 
+-- the column over these users, where the value of each user stays
+abbrev pub over_users : List User → List User → ColumnView → ColumnView
+over_users old users c = record c { values = map (value_of old c) users }
+
 -- the value of a user is this, and that of each other user is as it was
 abbrev pub SetsValue : List User → ColumnView → User → Option ℕ → ColumnView → Type 0
 SetsValue users old u value new = (x : User) → value_of users new x ≡ (if same_user x u then value else value_of users old x)

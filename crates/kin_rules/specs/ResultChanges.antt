@@ -1,11 +1,11 @@
 -- What the calls that change a result do to it.
-use Rattle.std.specs.Prelude.{◌≡◌, ◌==◌, ◌&&◌, ◌||◌, ℕ, nat_lt, Bool, true, false, if◌then◌else◌, List, [], Option}
+use Rattle.std.specs.Prelude.{◌≡◌, ◌==◌, ◌&&◌, ◌||◌, ℕ, nat_lt, Bool, true, false, if◌then◌else◌, List, [], Option, slice_index_or}
 use Rattle.kin_ids.specs.declared.ids.User.{User}
 use Rattle.kin_ids.specs.Users.{same_user, same_tag, has_user}
 use Rattle.kin_rules.specs.declared.numbers.Num.{Num}
 use Rattle.kin_rules.specs.declared.numbers.Num.TheVariants as num
 use Rattle.kin_rules.specs.declared.numbers.KCount.{KCount}
-use Rattle.kin_rules.specs.Results.{ResultView, has_tag, number_in, tag_users_in, expo_in, hops_in, close_in, landmarks_in}
+use Rattle.kin_rules.specs.Results.{ResultView, has_tag, number_in, tag_users_in, expo_in, hops_in, close_in, landmarks_in, no_column}
 
 -- whether two rules are the same
 abbrev pub same_num : Num → Num → Bool
@@ -24,6 +24,17 @@ pub record AddsUser (old : ResultView) (u : User) (new : ResultView) : Type 0 wh
   pub landmarks : landmarks_in new ≡ landmarks_in old
   pub tags : (new.tags ≡ old.tags) × (new.tag_users ≡ old.tag_users) × (new.expos ≡ old.expos)
   pub epoch : new.epoch ≡ old.epoch
+
+-- The users are these, and every value of a user is as it was, also those that a column has of others. Tags aren't spoken of.
+pub record IsWider (old : ResultView) (over : List User) (new : ResultView) : Type 0 where
+  pub users : new.users ≡ over
+  pub numbers : (which : Num) (x : User) → number_in new which x ≡ number_in old which x
+  pub hops : (i : ℕ) (x : User) → hops_in new i x ≡ hops_in old i x
+  pub close : (i : ℕ) (x : User) → close_in new i x ≡ close_in old i x
+  pub landmarks : landmarks_in new ≡ landmarks_in old
+  pub epoch : new.epoch ≡ old.epoch
+  pub plain_hops : (i : ℕ) → (slice_index_or new.hops i no_column).others ≡ (slice_index_or old.hops i no_column).others
+  pub plain_close : (i : ℕ) → (slice_index_or new.close i no_column).others ≡ (slice_index_or old.close i no_column).others
 
 -- the number of a user under a rule is this, and all else is as it was
 pub record SetsNumber (old : ResultView) (which : Num) (u : User) (n : ℕ) (new : ResultView) : Type 0 where

@@ -14,11 +14,19 @@ use kin_ids::{Memory, User};
 use std::alloc::Global;
 use std::collections::BTreeMap;
 
-/// A value or none for each of the users, in their order, and the values of those that are none of the users.
+/// A column of a rule of walks from one landmark: a value or none for each of the users, in their order, and the values
+/// of those that are none of the users.
 #[derive(Drop)]
-pub(crate) struct Column {
-    pub(crate) values: Vec<Option<u32>>,
-    pub(crate) others: BTreeMap<User, u32>,
+pub struct Column {
+    pub values: Vec<Option<u32>>,
+    pub others: BTreeMap<User, u32>,
+}
+
+/// The columns of both rules of walks, one of each landmark.
+#[derive(Drop)]
+pub struct Walks {
+    pub hops: Vec<Column>,
+    pub close: Vec<Column>,
 }
 
 impl Column {

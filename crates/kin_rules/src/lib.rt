@@ -2,10 +2,11 @@
 //! entries.
 #![tactic(auto)]
 
-mod columns;
+pub mod columns;
 pub mod costs;
 mod edges;
 mod evaluations;
+mod exchanges;
 mod exposure_lists;
 pub(crate) mod exposure_rules;
 pub mod indexes;
@@ -25,7 +26,9 @@ mod spots;
 pub mod tops;
 pub mod turns;
 pub mod walks;
+mod widenings;
 
+pub use columns::{Column, Walks};
 pub use costs::Costs;
 pub use exposure_rules::{UseK, UseKs};
 pub use indexes::Index;

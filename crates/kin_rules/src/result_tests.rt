@@ -113,3 +113,59 @@ fn values_of_users_and_of_others(rt: HostRuntime) -> Result<(), Fail> {
     }
     Ok(())
 }
+
+#[test]
+fn users_come_at_once_and_values_stay(rt: HostRuntime) -> Result<(), Fail> {
+    let mut found = EpochResult::new(rt.alloc(), 1)?;
+    let wide = found.wider(Vec::from_slice(rt.alloc(), &[User(5)])?)?;
+    found.widen(wide);
+    found.put_number(Num::Rank, User(5), 8);
+    found.set_hops(0, User(5), Some(2))?;
+    found.set_close(0, User(9), Some(0))?;
+    let wide = found.wider(Vec::from_slice(rt.alloc(), &[User(2), User(5), User(9)])?)?;
+    found.widen(wide);
+    let table = [
+        (2, 0, None, None),
+        (5, 8, Some(2), None),
+        (9, 0, None, Some(0)),
+    ];
+    for (user, rank, hops, close) in table {
+        let user = User(user);
+        assert!(rt; found.rank_of(user) == rank && found.hops_of(0, user) == hops);
+        assert!(rt; found.close_of(0, user) == close);
+    }
+    Ok(())
+}
+
+#[test]
+fn walks_go_out_and_come_back(rt: HostRuntime) -> Result<(), Fail> {
+    let user = User(5);
+    let mut found = EpochResult::new(rt.alloc(), 1)?;
+    found.set_hops(0, user, Some(2))?;
+    found.set_close(0, user, Some(7))?;
+    let walks = found.take_walks();
+    assert!(rt; found.hops_of(0, user) == None && found.close_of(0, user) == None);
+    found.put_walks(walks);
+    assert!(rt; found.hops_of(0, user) == Some(2) && found.close_of(0, user) == Some(7));
+    Ok(())
+}
+
+#[test]
+fn tags_come_at_once_and_exposures_stay(rt: HostRuntime) -> Result<(), Fail> {
+    let (a, go) = (tag(&rt, b"a"), tag(&rt, b"go"));
+    let list = [KCount { k: 0, users: 2 }, KCount { k: 3, users: 1 }];
+    let table: [(Tag, &[KCount]); 2] = [(go, list.as_slice()), (a, &[])];
+    for (tag, want) in table {
+        let mut found = EpochResult::new(rt.alloc(), 0)?;
+        found.set_tag(go, 3)?;
+        found.set_expo(go, list.as_slice())?;
+        let tags = Vec::from_slice(rt.alloc(), &[tag])?;
+        let other = found.tagged(tags, Vec::from_slice(rt.alloc(), &[4])?)?;
+        found.retag(other);
+        assert!(rt; found.tags() == [tag].as_slice() && found.users_of(tag) == 4);
+        assert!(rt; found.expo_of(tag) == want);
+        found.put_tag(tag, 9);
+        assert!(rt; found.users_of(tag) == 9 && found.expo_of(tag) == want);
+    }
+    Ok(())
+}

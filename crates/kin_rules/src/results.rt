@@ -204,6 +204,15 @@ impl EpochResult {
         ensures set { OnOk result (SetsNumber self.old which u n self.new) }
         ensures err { OnErr result (self.new ≡ self.old) }
     {
+        self.put_number(which, u, n);
+        Ok(())
+    }
+
+    /// As `set_number`, without memory.
+    pub fn put_number(&mut self, which: Num, u: User, n: u64)
+        requires { has_user self.old.users u ≡ true }
+        ensures { SetsNumber self.old which u n self.new }
+    {
         let Ok(at) = spot_of_user(&self.users, u) else {
             unreachable!();
         };
@@ -213,7 +222,6 @@ impl EpochResult {
             Num::Said => self.said[at] = n,
             Num::Rank => self.ranks[at] = n,
         }
-        Ok(())
     }
 
     /// Sets how many users a tag has. Where it has none, it is in use no longer, and its exposures go with it. It costs
@@ -235,10 +243,22 @@ impl EpochResult {
                 if n == 0 {
                     Ok(())
                 } else {
-                    self.put_tag(at, t, n)
+                    self.add_tag(at, t, n)
                 }
             }
         }
+    }
+
+    /// Sets how many users a tag in use has, without memory. It costs a look-up.
+    pub fn put_tag(&mut self, t: Tag, n: u64)
+        requires in_use { has_tag self.old.tags t ≡ true }
+        requires some { 0 < n }
+        ensures { SetsTag self.old t n self.new }
+    {
+        let Ok(at) = spot_of_tag(&self.tags, t) else {
+            unreachable!();
+        };
+        self.tag_users[at] = n;
     }
 
     /// Sets the exposures of a tag in use. It costs a look-up and a copy of the list.
@@ -287,7 +307,7 @@ impl EpochResult {
     }
 
     // A tag is in use from here on, at that place.
-    fn put_tag(&mut self, at: usize, t: Tag, n: u64) -> Result<(), Memory>
+    fn add_tag(&mut self, at: usize, t: Tag, n: u64) -> Result<(), Memory>
         requires spot { WouldStandAt tag_cmp self.old.tags t at }
         requires some { 0 < n }
         ensures set { OnOk result (SetsTag self.old t n self.new) }

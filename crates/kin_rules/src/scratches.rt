@@ -17,7 +17,7 @@ ghost use Rattle.kin_rules.specs.Results.{IsResult, has_tag};
 ghost use Rattle.kin_rules.specs.Scratches.{AreLists, column_by, in_seen, out_seen, users_seen};
 
 use crate::Index;
-use crate::columns::Column;
+use crate::columns::{Column, Walks};
 use crate::edges::Edges;
 use crate::evaluations::{exposures, ranks};
 use crate::exposure_lists::exposure_lists;
@@ -184,12 +184,6 @@ fn tag_rows<V: View, L: Ledger>(
 }
 
 // A column of hops and one of closeness from each landmark.
-#[derive(Drop)]
-struct Walks {
-    hops: Vec<Column>,
-    close: Vec<Column>,
-}
-
 fn walks_of<V: View, L: Ledger>(
     alloc: Global,
     view: &V,
