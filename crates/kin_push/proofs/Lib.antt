@@ -1,0 +1,10 @@
+pub mod Facts
+pub mod States
+pub mod Offers
+pub mod TurnParts
+pub mod Edges
+pub mod Begun
+pub mod Epochs
+pub mod Starting
+pub mod EngineParts
+pub mod ClosedViews

@@ -1,0 +1,15 @@
+use Rattle.kin_push.specs.States.{IsPushState, is_active, state, value_in}
+use Rattle.kin_push.proofs.Offers.{Offering}
+use Rattle.kin_push.proofs.turns.push_mentions.Given as goal
+
+pub record Kept (is so_far : Type 0) : Type 0 where
+  pub state_is : is
+  pub offering : so_far
+
+-- the ends so far have been offered the value
+abbrev pub invariant-loop-end : goal.invariant-loop-end
+invariant-loop-end g l =
+    Kept (IsPushState (state l.users l.values l.active))
+    (Offering l.ends l.end-iterator l.value (value_in (state l.users l.fn.values l.fn.active))
+    (is_active (state l.users l.fn.values l.fn.active)) (value_in (state l.users l.values l.active))
+    (is_active (state l.users l.values l.active)))
