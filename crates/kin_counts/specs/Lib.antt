@@ -1,0 +1,4 @@
+pub mod Counts
+pub mod Changes
+pub mod Plans
+pub mod Tallies
