@@ -1,0 +1,16 @@
+pub mod Standing
+pub mod Permuted
+pub mod Views
+pub mod Epochs
+pub mod Marks
+pub mod Drafts
+pub mod Found
+pub mod Tells
+pub mod Rows
+pub mod Plans
+pub mod Touched
+pub mod Turned
+pub mod Idle
+pub mod Leading
+pub mod LookedUp
+pub mod Shares

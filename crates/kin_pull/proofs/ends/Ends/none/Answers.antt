@@ -1,0 +1,7 @@
+use Rattle.std.proofs.Common.{◌∙◌, ap}
+use Rattle.std.specs.Option.{option_map}
+use Rattle.kin_pull.proofs.LookedUp.{cell-map}
+use Rattle.kin_pull.proofs.ends.Ends.none.Goals as goal
+
+pub returns-clause-none : goal.returns-clause-none
+returns-clause-none c = λ p. cell-map (λ r. r.items) c.in_ok-no_cells.field-0.items p ∙ ap (option_map (λ r. r.items)) (c.in_ok-no_cells.ensures.none p)

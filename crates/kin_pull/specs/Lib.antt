@@ -1,0 +1,9 @@
+pub mod Keeping
+pub mod States
+pub mod Settles
+pub mod Passes
+pub mod Turns
+pub mod TurnSteps
+pub mod Begins
+pub mod Plans
+pub mod Engines
