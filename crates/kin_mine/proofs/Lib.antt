@@ -1,0 +1,14 @@
+pub mod Columns
+pub mod Firsts
+pub mod Steps
+pub mod Writes
+pub mod Orders
+pub mod Fits
+pub mod Quiets
+pub mod Begins
+pub mod Entered
+pub mod Actives
+pub mod Mining
+pub mod Opened
+pub mod Calls
+pub mod Entering

@@ -1,8 +1,12 @@
-//! Mining epoch by epoch: all values of the epoch begun last.
+//! Mining epoch by epoch: all values of the epoch begun last, kept from epoch to epoch.
 #![tactic(auto)]
 
+mod lanes;
+pub mod laws;
 pub mod miners;
+pub(crate) mod plans;
 pub mod refusals;
+pub(crate) mod walk_rules;
 
 pub use kin_rules::{EpochResult, Turn};
 pub use miners::Miner;

@@ -21,7 +21,8 @@ use Rattle.kin_ids.specs.declared.ids.User.{User}
 use Rattle.kin_ids.specs.Users.{has_user}
 use Rattle.kin_mine.specs.declared.refusals.ResultRefused.{ResultRefused}
 use Rattle.kin_mine.specs.declared.refusals.ResultRefused.TheVariants as refused
-use Rattle.kin_mine.specs.Miners.{MinerView, IsLeastUser, begun}
+use Rattle.kin_mine.specs.Miners.{MinerView, IsLeastUser, active_in, begun}
+use Rattle.kin_mine.proofs.Quiets.{quiet-result}
 use Rattle.kin_rules.specs.Results.{IsResult}
 use Rattle.kin_report.specs.Block.{block_text}
 use Rattle.kin_report.specs.Epochs.{ends_of, new_records}
@@ -108,7 +109,7 @@ module _ (set : Setting) (w : WorldView) (h : List Event) (s : Stands set w h) (
 
 module _ (w : WorldView) (k : ℕ) (just : HasJustMined w k) where
   -- nobody is active
-  pub at-rest : w.miner.active ≡ []
+  pub at-rest : active_in w.miner ≡ []
   at-rest = just.stands.mining.quiet just.closed
 
   begun-is : begun w.miner ≡ k
@@ -116,7 +117,7 @@ module _ (w : WorldView) (k : ℕ) (just : HasJustMined w k) where
 
   -- so the miner hands out its result
   pub no-refusal : {T : Type 0} (o : Result T ResultRefused) (r : ResultRefused) (m : MinerView) → m ≡ w.miner → o ≡ Err r → (IsErrOf o refused.NotBegun ↔ (begun m ≡ 0))
-      → ((u : User) → IsErrOf o (refused.Active u) ↔ ((begun m ≢ 0) × IsLeastUser m.active u)) → ⊥
+      → ((u : User) → IsErrOf o (refused.Active u) ↔ ((begun m ≢ 0) × IsLeastUser (active_in m) u)) → ⊥
   no-refusal {T} o refused.NotBegun m is err none some =
       let zero : begun m ≡ 0 = none.0 (subst (λ (x : Result T ResultRefused). IsErrOf x refused.NotBegun) (sym err) refl) in
       let now = ap (λ (x : MinerView). begun x) is in
@@ -125,12 +126,12 @@ module _ (w : WorldView) (k : ℕ) (just : HasJustMined w k) where
       absurd (omega (arith, zero, now, k_is, above))
   no-refusal {T} o (refused.Active u) m is err none some =
       let least = ((some u).0 (subst (λ (x : Result T ResultRefused). IsErrOf x (refused.Active u)) (sym err) refl)).1 in
-      absurd (false≢true (ap (λ (us : List User). has_user us u) (sym (ap (λ (x : MinerView). x.active) is ∙ at-rest)) ∙ least.one))
+      absurd (false≢true (ap (λ (us : List User). has_user us u) (sym (ap active_in is ∙ at-rest)) ∙ least.one))
 
 -- and the result is of the epoch's graph, by each history that the world stands for
-pub result-of : (set : Setting) (w : WorldView) (h : List Event) (s : Stands set w h) (k : ℕ) → w.miner.active ≡ [] → last_begun set h ≡ k
+pub result-of : (set : Setting) (w : WorldView) (h : List Event) (s : Stands set w h) (k : ℕ) → active_in w.miner ≡ [] → last_begun set h ≡ k
     → IsResult (snapshot set.feeds (vector set h) k) w.miner.landmarks w.miner.result
-result-of set w h s k rest is = subst (λ (n : ℕ). IsResult (snapshot set.feeds (vector set h) n) w.miner.landmarks w.miner.result) is (s.mining.miner.values rest)
+result-of set w h s k rest is = subst (λ (n : ℕ). IsResult (snapshot set.feeds (vector set h) n) w.miner.landmarks w.miner.result) is (quiet-result _ _ w.miner s.mining.miner rest)
 
 -- the epoch begun last is cut
 pub begun-cut-is : (set : Setting) (h : List Event) (k : ℕ) → last_begun set h ≡ k → k ≤ cuts set h

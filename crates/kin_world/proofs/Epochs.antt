@@ -20,7 +20,7 @@ use Rattle.kin_history.proofs.Mined.{IsReady, ready, mined-order}
 use Rattle.kin_blocks.specs.Snaps.{joined}
 use Rattle.kin_hub.specs.Hubs.{KeepsEpoch, parts_in, cuts_in, committed_in, snap_in}
 use Rattle.kin_hub.proofs.Committing.{kept-snapshot}
-use Rattle.kin_mine.specs.Miners.{begun}
+use Rattle.kin_mine.specs.Miners.{active_in, begun}
 use Rattle.kin_world.specs.Worlds.{WorldView}
 use Rattle.kin_world.specs.Mining.{lagging_in, held_back_in, begin_told, turn_told, mine_told}
 use Rattle.kin_world.specs.Stands.{Stands, HasHistory, last_begun, story_of}
@@ -128,5 +128,5 @@ module _ (w : WorldView) (has : HasHistory w) where
   pub closed-begun : w.is_open ≡ false → begun w.miner ≡ w.mined
   closed-begun closed = begun-closed has.0 w has.1 has.2 closed
 
-  pub closed-quiet : w.is_open ≡ false → w.miner.active ≡ []
+  pub closed-quiet : w.is_open ≡ false → active_in w.miner ≡ []
   closed-quiet closed = has.2.mining.quiet (sym has.2.mining.open_is ∙ closed)

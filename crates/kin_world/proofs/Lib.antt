@@ -21,6 +21,7 @@ pub mod Moments
 pub mod Lagging
 pub mod Epochs
 pub mod Smalls
+pub mod Leads
 pub mod Beginning
 pub mod Turning
 pub mod Mines

@@ -14,7 +14,7 @@ use Rattle.kin_hub.specs.Hubs.{HubView, chain_in, row_in, committed_in, first_in
 use Rattle.kin_hub.specs.Stands.{HubStands}
 use Rattle.kin_hub.specs.Opens.{first_hub, first_story}
 use Rattle.kin_ids.specs.Graph.{empty_graph}
-use Rattle.kin_mine.specs.Miners.{MinerView, IsMinerOf}
+use Rattle.kin_mine.specs.Miners.{MinerView, IsMinerOf, active_in}
 use Rattle.kin_world.specs.Opens.{AreFirst}
 use Rattle.kin_world.specs.Stands.{Stands}
 
@@ -26,7 +26,7 @@ no_row-is : (nodes parts p : ℕ) → p < parts → row_in (first_hub nodes part
 no_row-is nodes parts p p_lt = get_or-replicate parts p (no_report nodes) (no_report 0) p_lt
 
 pub first-stands : (feeds : List (List Record)) (parts : ℕ) (landmarks : List User) (ingests : List Ingest) (hub : HubView) (miner : MinerView) → AreWithinLimits feeds → AreFirst feeds ingests → hub ≡ first_hub (length feeds) parts →
-    HubStands (first_story feeds parts) hub → miner.landmarks ≡ landmarks → miner.active ≡ [] → IsMinerOf empty_graph 0 miner →
+    HubStands (first_story feeds parts) hub → miner.landmarks ≡ landmarks → active_in miner ≡ [] → IsMinerOf empty_graph 0 miner →
     Stands (record { feeds = feeds; parts = parts; landmarks = landmarks }) (record { feeds = feeds; parts = parts; ingests = ingests; sent = []; hub = hub; miner = miner; mined = 0; is_open = false }) []
 first-stands feeds parts landmarks ingests hub miner limits first is stands landmarks_are quiet mines = record {
   over = record {

@@ -13,7 +13,7 @@ use Rattle.kin_table.specs.Tables.{inc_in}
 use Rattle.kin_hub.specs.Hubs.{chain_in, row_in, committed_in, first_in}
 use Rattle.kin_hub.specs.Stands.{HubStands}
 use Rattle.kin_ids.specs.Order.{snapshot}
-use Rattle.kin_mine.specs.Miners.{IsMinerOf}
+use Rattle.kin_mine.specs.Miners.{IsMinerOf, active_in}
 use Rattle.kin_world.specs.Worlds.{WorldView, node_at, setting_of}
 use Rattle.kin_world.specs.Stands.{Stands, Keeps, with_bases}
 use Rattle.kin_world.proofs.Facts.{in_range}
@@ -54,7 +54,7 @@ alike set w h g same legal s = record {
     mined_is = subst (λ (x : Standing). w.mined ≡ x.mined) same s.mining.mined_is;
     open_is = subst (λ (x : Standing). w.is_open ≡ x.is_open) same s.mining.open_is;
     miner = subst (λ (x : Standing). IsMinerOf (snapshot set.feeds x.vector (cond x.is_open (x.mined + 1) x.mined)) (cond x.is_open (x.mined + 1) x.mined) w.miner) same s.mining.miner;
-    quiet = subst (λ (x : Standing). x.is_open ≡ false → w.miner.active ≡ []) same s.mining.quiet;
+    quiet = subst (λ (x : Standing). x.is_open ≡ false → active_in w.miner ≡ []) same s.mining.quiet;
   };
 }
 

@@ -2,12 +2,13 @@
 use Rattle.std.proofs.Common.{◌≡◌, ℕ, ◌<◌, true, false, List, ◌∷◌, refl, sym, ◌∙◌, ap, subst}
 use Rattle.std.proofs.lemmas.Bool.{false≢true}
 use Rattle.kin_ids.specs.declared.ids.User.{User}
+use Rattle.kin_ids.specs.Users.{has_user}
 use Rattle.kin_script.specs.declared.events.Event.{Event}
 use Rattle.kin_script.specs.declared.events.Event.TheVariants as event
 use Rattle.kin_script.specs.declared.outcomes.Outcome.{Outcome}
 use Rattle.kin_script.specs.declared.outcomes.Outcome.TheVariants as outcome
 use Rattle.kin_history.specs.Setting.{Setting}
-use Rattle.kin_mine.specs.Miners.{MinerView}
+use Rattle.kin_mine.specs.Miners.{MinerView, active_in}
 use Rattle.kin_world.specs.Worlds.{WorldView, KeptWhereRefused}
 use Rattle.kin_world.specs.Mining.{TurnsUser, MakesTurns, Turns, CallsMiner}
 use Rattle.kin_world.specs.Stands.{Stands, Keeps, MiningStands}
@@ -16,7 +17,7 @@ use Rattle.kin_world.proofs.Refusals.{refused-keeps}
 
 -- a turn is some turns
 pub turns-of : (old : MinerView) (u : User) (new : MinerView) → TurnsUser old u new → MakesTurns old new
-turns-of old u new t = record { idle = λ none. t.idle (rw none refl); landmarks = t.landmarks; stands = t.stands }
+turns-of old u new t = record { idle = λ none. t.idle (ap (λ (us : List User). has_user us u) none); landmarks = t.landmarks; stands = t.stands }
 
 -- a miner that makes some turns stands for what it stood for
 module _ (set : Setting) (w : WorldView) (h : List Event) (s : Stands set w h) (miner : MinerView) (t : MakesTurns w.miner miner) where
@@ -37,7 +38,7 @@ module _ (set : Setting) (w : WorldView) (h : List Event) (s : Stands set w h) (
       mined_is = s.mining.mined_is;
       open_is = s.mining.open_is;
       miner = t.stands _ _ s.mining.miner;
-      quiet = λ closed. let none = s.mining.quiet closed in ap (λ (m : MinerView). m.active) (t.idle none) ∙ none;
+      quiet = λ closed. let none = s.mining.quiet closed in ap active_in (t.idle none) ∙ none;
     };
   }
 

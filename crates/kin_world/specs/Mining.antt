@@ -17,30 +17,33 @@ use Rattle.kin_history.specs.Outcomes.{begin_answer, mine_answer}
 use Rattle.kin_blocks.specs.Snaps.{joined}
 use Rattle.kin_blocks.specs.Versions.{released}
 use Rattle.kin_hub.specs.Goes.{HubKeeps}
-use Rattle.kin_hub.specs.Hubs.{HubView, cuts_in, committed_in, snap_in}
-use Rattle.kin_mine.specs.Miners.{MinerView, IsMinerOf, begun, turn_of}
+use Rattle.kin_hub.specs.Hubs.{HubView, cuts_in, committed_in, deltas_in, snap_in}
+use Rattle.kin_mine.specs.Epochs.{BeginsOn, TurnsAt}
+use Rattle.kin_mine.specs.Miners.{MinerView, IsMinerOf, active_in, begun, turn_of}
 use Rattle.kin_rules.specs.declared.turns.Turn.{Turn}
 use Rattle.kin_world.specs.Worlds.{WorldView}
 
 -- ---- the miner's calls
 
--- The miner begins its next epoch, on the hub's snapshot of it.
+-- The miner begins its next epoch, on the hub's snapshot of it and with its deltas.
 pub record BeginsEpoch (old : WorldView) (k : ℕ) (new : MinerView) : Type 0 where
   pub epoch : begun new ≡ begun old.miner + 1
   pub landmarks : new.landmarks ≡ old.miner.landmarks
+  pub begins : BeginsOn (joined (snap_in old.hub k)) (deltas_in old.hub k) old.miner new
   pub stands : (g : Graph) → IsViewOf g (joined (snap_in old.hub k)) → IsMinerOf g k new
 
 -- The miner makes a turn of a user.
 pub record TurnsUser (old : MinerView) (u : User) (new : MinerView) : Type 0 where
   pub turn : Turn
   pub turn_is : turn ≡ turn_of old u
-  pub idle : has_user old.active u ≡ false → new ≡ old
+  pub idle : has_user (active_in old) u ≡ false → new ≡ old
+  pub turns : TurnsAt u old new
   pub landmarks : new.landmarks ≡ old.landmarks
   pub stands : (g : Graph) (k : ℕ) → IsMinerOf g k old → IsMinerOf g k new
 
 -- The miner makes some turns.
 pub record MakesTurns (old new : MinerView) : Type 0 where
-  pub idle : old.active ≡ [] → new ≡ old
+  pub idle : active_in old ≡ [] → new ≡ old
   pub landmarks : new.landmarks ≡ old.landmarks
   pub stands : (g : Graph) (k : ℕ) → IsMinerOf g k old → IsMinerOf g k new
 
@@ -111,7 +114,7 @@ pub record Turns (old : WorldView) (u : User) (o : Outcome) (new : WorldView) : 
 pub record MinesOpen (old new : WorldView) : Type 0 where
   pub opened : old.is_open ≡ true
   pub turns : MakesTurns old.miner new.miner
-  pub quiet : new.miner.active ≡ []
+  pub quiet : active_in new.miner ≡ []
   pub hub : new.hub ≡ record old.hub { versions = released old.hub.versions (old.mined + 1) }
   pub keeps : HubKeeps old.hub new.hub
   pub world : new ≡ record old { hub = new.hub; miner = new.miner; mined = old.mined + 1; is_open = false }

@@ -17,7 +17,7 @@ use Rattle.kin_held.specs.ChainOf.{IsChainOf}
 use Rattle.kin_table.specs.Tables.{inc_in}
 use Rattle.kin_hub.specs.Hubs.{HubView, chain_in, row_in, committed_in, first_in}
 use Rattle.kin_hub.specs.Stands.{Story, HubStands}
-use Rattle.kin_mine.specs.Miners.{IsMinerOf}
+use Rattle.kin_mine.specs.Miners.{IsMinerOf, active_in}
 use Rattle.kin_world.specs.declared.sent_logs.Sent.{Sent}
 use Rattle.kin_world.specs.Worlds.{WorldView, IsWorld, node_at}
 
@@ -90,7 +90,7 @@ pub record MiningStands (set : Setting) (w : WorldView) (h : List Event) : Type 
   pub mined_is : w.mined ≡ mined set h
   pub open_is : w.is_open ≡ is_open set h
   pub miner : IsMinerOf (snapshot set.feeds (vector set h) (last_begun set h)) (last_begun set h) w.miner
-  pub quiet : is_open set h ≡ false → w.miner.active ≡ []
+  pub quiet : is_open set h ≡ false → active_in w.miner ≡ []
 
 -- The world stands for a history.
 pub record Stands (set : Setting) (w : WorldView) (h : List Event) : Type 0 where

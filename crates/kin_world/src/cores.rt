@@ -1,6 +1,7 @@
 //! The core of a world: what each event does.
 
-ghost use Rattle.std.specs.Prelude.{◌≡◌, ◌<◌, ◌≤◌, ◌+◌, ℕ, true, false, List, [], All, IfOk, MatchOption, None, nat_lt, OnOk, OnErr, Some, length, map, sum_by};
+ghost use Rattle.std.specs.Prelude.{◌≡◌, ◌<◌, ◌≤◌, ◌+◌, ℕ, true, false, List, [], All};
+ghost use Rattle.std.specs.Prelude.{IfOk, MatchOption, None, nat_lt, OnOk, OnErr, Some, length, map, sum_by};
 ghost use Rattle.kin_ids.specs.declared.ops.Record.{Record};
 ghost use Rattle.kin_ids.specs.Sizes.{IsSmall};
 ghost use Rattle.kin_script.specs.declared.events.Event.{Event};
@@ -40,9 +41,27 @@ impl Model for Core {
 
     ghost Value = { WorldView };
 
-    ghost view = { λ w. record { feeds = w.feeds.items; parts = w.parts; ingests = w.ingests.items; sent = w.sent; hub = w.hub; miner = w.miner; mined = w.mined; is_open = w.is_open } };
+    ghost view = { λ w. record {
+      feeds = w.feeds.items;
+      parts = w.parts;
+      ingests = w.ingests.items;
+      sent = w.sent;
+      hub = w.hub;
+      miner = w.miner;
+      mined = w.mined;
+      is_open = w.is_open;
+    } };
 
-    ghost invariant = { λ w. IsWorld (record { feeds = w.feeds.items; parts = w.parts; ingests = w.ingests.items; sent = w.sent; hub = w.hub; miner = w.miner; mined = w.mined; is_open = w.is_open }) };
+    ghost invariant = { λ w. IsWorld (record {
+      feeds = w.feeds.items;
+      parts = w.parts;
+      ingests = w.ingests.items;
+      sent = w.sent;
+      hub = w.hub;
+      miner = w.miner;
+      mined = w.mined;
+      is_open = w.is_open;
+    }) };
 }
 
 impl Core {
@@ -55,8 +74,10 @@ impl Core {
     ghost use Rattle.kin_hub.specs.Goes.{HubKeeps, HubRaises};
     ghost use Rattle.kin_world.specs.SentStamps.{find_sent};
     ghost use Rattle.kin_world.specs.Worlds.{IsWorld, HasRoom, KeptWhereRefused, setting_of};
-    ghost use Rattle.kin_world.specs.Steps.{Stamps, Crashes, Restarts, MayRestart, IsStamped, IsPieceFor, Delivers, Cuts, CommitsPart};
-    ghost use Rattle.kin_world.specs.Mining.{Begins, CallsMiner, MayOpen, Mines, MinesOpen, TurnsOn, Turns, held_back_in, lagging_in};
+    ghost use Rattle.kin_world.specs.Steps.{Stamps, Crashes, Restarts, MayRestart, IsStamped};
+    ghost use Rattle.kin_world.specs.Steps.{IsPieceFor, Delivers, Cuts, CommitsPart};
+    ghost use Rattle.kin_world.specs.Mining.{Begins, CallsMiner, MayOpen, Mines, MinesOpen};
+    ghost use Rattle.kin_world.specs.Mining.{TurnsOn, Turns, held_back_in, lagging_in};
     ghost use Rattle.kin_world.specs.Stands.{Stands, HasHistory, Keeps, KeepsOrBegins, KeptAtMemory};
 
     pub fn open(

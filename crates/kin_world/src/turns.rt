@@ -1,7 +1,7 @@
 //! The miner's turns, where nobody counts what they read.
 
 ghost use Rattle.std.specs.Prelude.{◌≡◌, ◌<◌, ◌↔◌, [], IsErrOf, OnOk, OnErr};
-ghost use Rattle.kin_mine.specs.Miners.{begun};
+ghost use Rattle.kin_mine.specs.Miners.{active_in, begun};
 ghost use Rattle.kin_world.specs.Mining.{MakesTurns, TurnsUser};
 
 use kin_graph::Steps;
@@ -31,7 +31,7 @@ pub(crate) fn settle<L: Ledger>(miner: &mut Miner, blank: Blank) -> Result<(), T
     requires parts { (blank.parts ≡ L.parts) × (0 < L.parts) }
     ensures not_begun { IsErrOf result TurnRefused.NotBegun ↔ (begun miner.old ≡ 0) }
     ensures turns { MakesTurns miner.old miner.new }
-    ensures quiet { OnOk result (miner.new.active ≡ []) }
+    ensures quiet { OnOk result (active_in miner.new ≡ []) }
 {
     let mut steps = Steps::<L>::new(blank);
     miner.settle(&mut steps)

@@ -1,0 +1,18 @@
+use Rattle.std.proofs.Common.{◌∙◌, List, Bool, sym}
+use Rattle.std.proofs.lemmas.List.{length-map}
+use Rattle.kin_rules.specs.declared.columns.Column.{Column}
+use Rattle.kin_rules.specs.Columns.{column_of, columns_of}
+use Rattle.kin_push.specs.Begins.{IsEntered}
+use Rattle.kin_mine.specs.Lanes.{AreAllDone, lanes}
+use Rattle.kin_mine.specs.Miners.{rule_of}
+use Rattle.kin_mine.proofs.Writes.{both-written}
+use Rattle.kin_mine.proofs.lanes.enter_lanes.Goals as goal
+
+pub returns-clause-each : goal.returns-clause-each
+returns-clause-each c =
+    let e = c.enter_slices.ensures.each in
+    let new = length-map c.enter_slices.new.columns column_of in
+    let old = length-map c.as_mut_slice-columns.result.now column_of in
+    both-written (λ (xs ys : List Column) (ms ns : List (List Bool)). AreAllDone (λ l. IsEntered (rule_of c.args.distance l) c.args.starts.now) c.args.landmarks.now c.args.users.now (lanes (columns_of xs) ms) (lanes (columns_of ys) ns)) _ _
+    c.args.columns.now.items c.as_mut_slice-columns.result.now c.enter_slices.new.columns c.args.marks.now.items c.as_mut_slice-marks.result.now c.enter_slices.new.marks
+    c.as_mut_slice-columns.ensures.value c.as_mut_slice-columns.ensures.len (sym new ∙ (e.columns_are ∙ old)) c.as_mut_slice-marks.ensures.value c.as_mut_slice-marks.ensures.len e.marks_are e
