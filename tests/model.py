@@ -9,8 +9,9 @@ A case begins with `world P FEEDS` or `world P FEEDS LANDMARKS`: P partitions; f
 records are parted by `|` (the feed `|` has none); landmarks parted by `,`. Then come lines of the schedule
 language, each answered by the text of its outcome. Four more lines are no events: `vectors` prints where each
 cut epoch ends; `store K` the snapshot of epoch K, and `deltas K` what epoch K changed in each partition, or `none`
-where it isn't kept; and `result` the values of the epoch begun last, or `not-begun` where there is none. Empty lines and lines that begin with `#` answer nothing;
-what is none of these answers `bad line`.
+where it isn't kept; and `result` the values of the epoch begun last, `active U` with the least active user where users
+are active, or `not-begun` where no epoch was begun. Empty lines and lines that begin with `#` answer nothing; what is
+none of these answers `bad line`.
 """
 import json
 import os
@@ -25,6 +26,7 @@ from programs import Check, conclude
 from reports import results
 from schedules import MOST_RECORDS, event_of
 from texts import text_of
+from turns import active_users
 
 TESTS = os.path.dirname(os.path.abspath(__file__))
 MOST_FEEDS = MOST_LANDMARKS = 16
@@ -69,9 +71,12 @@ def deltas(history, k):
 
 
 def result(history):
-    """The values of the epoch begun last."""
+    """The values of the epoch begun last, where nobody is active."""
     n = len(history.events)
     k = history.mined(n) + history.is_open(n)
+    active = active_users(history)
+    if active:
+        return [f'active {min(active)}']
     return [f'result {k}', *results(history.snapshot(k), history.landmarks)] if k else ['not-begun']
 
 

@@ -19,7 +19,7 @@ import subprocess
 import time
 from itertools import chain
 
-from draws import Draws, random_landmarks, random_record
+from draws import USERS, Draws, random_landmarks, random_record
 from model import answers, commits, files_of, stored, world_of, worked
 from programs import LONGEST, TOP, Check, conclude
 from schedules import MOST_RECORDS
@@ -131,8 +131,15 @@ def random_case(seed):
         lines += draws.noted([*draws.all_reports(), 'cut'])
     epochs = history.cuts(len(history.events))
     last = commits(history.parts if draw.random() < 0.8 else history.parts[:-1], epochs)
-    mined = mines(epochs) if draw.random() < 0.5 else []
+    mined = draw.choice([[], [], mines(epochs), turned(draw, epochs)])
     return [f'# by seed {seed}', world, *lines, *last, *looks(epochs), *mined]
+
+
+def turned(draw, epochs):
+    """Lines that mine so many epochs, each after some turns, and ask for the values after each line."""
+    for _ in range(epochs):
+        turns = [f'turn {draw.randrange(USERS)}' for _ in range(draw.randrange(3 * USERS))]
+        yield from (line for event in ['begin', *turns, 'mine'] for line in (event, 'result'))
 
 
 # Runs

@@ -3,7 +3,7 @@
 use crate::faults::Fault;
 use crate::stores::TagText;
 use kin_ids::{Tag, User};
-use kin_mine::{EpochResult, Miner};
+use kin_mine::{EpochResult, Miner, ResultRefused};
 use std::fmt;
 
 // The value of a rule on walks, `-` where there is none.
@@ -51,18 +51,24 @@ fn print_tag<R: Print>(rt: &R, values: &EpochResult, tag: Tag) -> Result<(), Fau
     Ok(())
 }
 
-/// Prints the epoch begun last and a line for each vertex and then for each tag in use, with all their values.
-pub(crate) fn print_result<R: Print>(rt: &R, miner: &Miner) -> Result<(), Fault> {
-    let Ok(values) = miner.result() else {
-        println!(rt; "not-begun")?;
-        return Ok(());
-    };
+fn print_values<R: Print>(rt: &R, values: &EpochResult, landmarks: usize) -> Result<(), Fault> {
     println!(rt; "result {}", values.epoch().0)?;
     for user in values.users() {
-        print_user(rt, values, miner.landmarks().len(), *user)?;
+        print_user(rt, values, landmarks, *user)?;
     }
     for tag in values.tags() {
         print_tag(rt, values, *tag)?;
+    }
+    Ok(())
+}
+
+/// Prints the epoch begun last and a line for each vertex and then for each tag in use, with all their values. Where
+/// users are active it prints the least of them.
+pub(crate) fn print_result<R: Print>(rt: &R, miner: &Miner) -> Result<(), Fault> {
+    match miner.result() {
+        Ok(values) => print_values(rt, values, miner.landmarks().len())?,
+        Err(ResultRefused::NotBegun) => println!(rt; "not-begun")?,
+        Err(ResultRefused::Active(user)) => println!(rt; "active {}", user.0)?,
     }
     Ok(())
 }
