@@ -12,7 +12,9 @@ let go after the next; what is kept at the end of `epochs` isn't freed. A line o
 beyond another one: `worlds N steps` is `forward` beyond `open`, which reads the feeds and opens the world, so N events
 of a world; `commits N stamps` is `cuts` beyond `open`, the same records stamped, delivered, agreed and cut;
 `commits N commits` is `forward` beyond `cuts`, the commits; and `epochs N singles` is `ones` beyond `before`, the same
-200,000 records, so N epochs of one record.
+200,000 records, so N epochs of one record. `mining N 0`, `2` and `16` are a hundred epochs of N records each, or as
+many as 100,000 records make, mined from so many landmarks after 200,000 records as one epoch; with `-open` they are
+left out, and `0-epochs`, `2-epochs` and `16-epochs` are the epochs alone, their commits among them.
 """
 import argparse
 import os
@@ -38,9 +40,12 @@ JOBS = [
     *(('epochs', 500000, how) for how in ('long', 'long-release')),
     *(('epochs', 20000, how) for how in ('before', 'ones', 'tens')),
     *(('epochs', 1000000, how) for how in ('idle', 'idle-release')),
+    *(('mining', count, f'{landmarks}{until}') for count in (1, 10, 100, 1000, 10000) for landmarks in (0, 2, 16)
+      for until in ('-open', '')),
 ]
 DIFFERENCES = {('worlds', 'forward'): ('steps', 'open'), ('commits', 'cuts'): ('stamps', 'open'),
-               ('commits', 'forward'): ('commits', 'cuts'), ('epochs', 'ones'): ('singles', 'before')}
+               ('commits', 'forward'): ('commits', 'cuts'), ('epochs', 'ones'): ('singles', 'before'),
+               **{('mining', str(landmarks)): (f'{landmarks}-epochs', f'{landmarks}-open') for landmarks in (0, 2, 16)}}
 SHORT = 20000
 LINES = 1048576
 REPLAY = ['replay', '--script', 'schedule', '--feeds']
@@ -78,7 +83,8 @@ def parts(program):
     """Times the parts."""
     costs = {}
     for what, count, how in JOBS:
-        costs[what, count, how] = least_cost([program, what, str(count), how], 5 if count <= SHORT else 1)
+        runs = 5 if count <= SHORT and what != 'mining' else 1
+        costs[what, count, how] = least_cost([program, what, str(count), how], runs)
         show(what, how, count, costs[what, count, how])
         if (what, how) in DIFFERENCES:
             name, less = DIFFERENCES[what, how]

@@ -1,11 +1,11 @@
 //! Epochs of a world: random records, stamped and delivered in rounds, agreed, cut and committed as they come.
 
-ghost use Rattle.std.specs.Prelude.{◌≡◌, ◌<◌, ◌≤◌, IfOk, OnOk};
+ghost use Rattle.std.specs.Prelude.{◌≡◌, ◌<◌, ◌≤◌, IfOk, OnOk, length};
 ghost use Rattle.kin_bench.specs.Shape.{HasShape};
 
 use crate::shapes;
 use crate::shapes::{RECORDS, step};
-use kin_ids::{Inc, IngestId, Memory, PartId};
+use kin_ids::{Inc, IngestId, Memory, PartId, User};
 use kin_script::{Event, Outcome};
 use kin_world::World;
 use rand_core::{Rng, SeedableRng};
@@ -61,7 +61,8 @@ fn write_line(text: &mut String, draws: &mut Xoshiro256PlusPlus, users: u64) -> 
 }
 
 /// A world over as many random records, dealt to the three feeds in turn.
-pub fn open(alloc: Global, n: u64) -> Result<World, Memory>
+pub fn open(alloc: Global, n: u64, landmarks: &[User]) -> Result<World, Memory>
+    requires { length landmarks.now ≤ 16 }
     ensures { IfOk result HasShape }
 {
     let records = n.min(3 * RECORDS);
@@ -71,7 +72,7 @@ pub fn open(alloc: Global, n: u64) -> Result<World, Memory>
         let text = &mut texts[(record % 3) as usize];
         write_line(text, &mut draws, records / 4 + 2)?;
     }
-    shapes::open(alloc, &texts)
+    shapes::open(alloc, &texts, landmarks)
 }
 
 // The transaction of node `ingest` that ends at `to` goes to all partitions.
@@ -178,11 +179,40 @@ fn end_epoch(world: &mut World, commits: bool) -> Result<(), Memory>
     Ok(())
 }
 
+/// All of the records are stamped, delivered and agreed, and none is cut.
+pub fn agree_on_all(world: &mut World) -> Result<(), Memory>
+    requires shape { HasShape world.old }
+    ensures { OnOk result (HasShape world.new) }
+{
+    let mut draws = Xoshiro256PlusPlus::seed_from_u64(0);
+    for round in 1..u64::MAX {
+        if !stamp_all(world, &mut draws)? {
+            break;
+        }
+        if round % AGREEING == 0 {
+            agree(world)?;
+        }
+    }
+    agree(world)
+}
+
+/// An epoch of so many records, where there is room for it, is cut and committed.
+pub fn short_epoch(world: &mut World, records: u64) -> Result<(), Memory>
+    requires shape { HasShape world.old }
+    requires records { (0 < records) × (records ≤ 2097152) }
+    ensures { OnOk result (HasShape world.new) }
+{
+    if world.hub().cuts() < EPOCHS {
+        step(world, Event::Cut { n: Some(records) })?;
+    }
+    commit(world)
+}
+
 // All of the records, in epochs of so many rounds.
 fn run(alloc: Global, n: u64, rounds: u64, commits: bool) -> Result<(), Memory>
     requires { 0 < rounds }
 {
-    let mut world = open(alloc, n)?;
+    let mut world = open(alloc, n, &[])?;
     let mut draws = Xoshiro256PlusPlus::seed_from_u64(0);
     for round in 1..u64::MAX {
         if !stamp_all(&mut world, &mut draws)? {

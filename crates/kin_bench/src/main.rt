@@ -3,13 +3,16 @@
 //! `commits N often` with eight times as many epochs, `commits N cuts`, which does all of `forward` but the commits, or
 //! `commits N open`, which does all but the events; `epochs N even`, `rank`, `long`, `ones`, `tens` or `idle`, the
 //! versions alone, and with `-release` after `even`, `long` or `idle` each epoch is let go after the next;
-//! `epochs N before`, which does all of `ones` but its epochs.
+//! `epochs N before`, which does all of `ones` but its epochs; `mining N 0`, `2` or `16`, epochs of N records each,
+//! mined from so many landmarks after 200,000 records that are mined as one epoch, or `mining N 0-open`, `2-open` or
+//! `16-open`, which end before them.
 #![tactic(auto)]
 
 mod chains;
 mod commits;
 mod draws;
 mod epochs;
+mod mining;
 mod shapes;
 mod stores;
 mod worlds;
@@ -35,11 +38,12 @@ fn run(alloc: Global, words: &[String]) -> Result<bool, Memory> {
         ("stores", "spread") => stores::spread(alloc, n as u32)?,
         ("worlds", "open") => drop(worlds::open(alloc, n)?),
         ("worlds", "forward") => worlds::forward(alloc, n)?,
-        ("commits", "open") => drop(commits::open(alloc, n)?),
+        ("commits", "open") => drop(commits::open(alloc, n, &[])?),
         ("commits", "cuts") => commits::cuts(alloc, n)?,
         ("commits", "forward") => commits::forward(alloc, n)?,
         ("commits", "often") => commits::often(alloc, n)?,
         ("epochs", how) => return epochs::run(alloc, n as u32, how),
+        ("mining", how) => return mining::run(alloc, n, how),
         _ => return Ok(false),
     }
     Ok(true)

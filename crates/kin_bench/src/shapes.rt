@@ -6,7 +6,7 @@ ghost use Rattle.kin_world.specs.Worlds.{HasRoom};
 ghost use Rattle.kin_bench.specs.Shape.{HasShape, FitsShape};
 
 use kin_feed::{Feed, FeedFault, read_feed};
-use kin_ids::Memory;
+use kin_ids::{Memory, User};
 use kin_script::{Event, Outcome};
 use kin_world::World;
 use std::alloc::Global;
@@ -35,12 +35,14 @@ fn read_all(alloc: Global, texts: &[String; 3]) -> Result<Vec<Feed>, Memory>
     Ok(feeds)
 }
 
-/// A world over three texts of feeds, of no more records each than the limit. More than that it takes for a want of memory.
-pub fn open(alloc: Global, texts: &[String; 3]) -> Result<World, Memory>
+/// A world over three texts of feeds, of no more records each than the limit. More than that it takes for a want of
+/// memory.
+pub fn open(alloc: Global, texts: &[String; 3], landmarks: &[User]) -> Result<World, Memory>
+    requires { length landmarks.now ≤ 16 }
     ensures { IfOk result HasShape }
 {
     let feeds = read_all(alloc, texts)?;
-    World::open(alloc, feeds, 4, &[])
+    World::open(alloc, feeds, 4, landmarks)
 }
 
 /// One event.

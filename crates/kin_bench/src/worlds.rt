@@ -1,5 +1,5 @@
-//! Events of a world: three nodes stamp in turn, each transaction goes to all of four partitions, and after every eighth round all of them
-//! report and the positions are raised.
+//! Events of a world: three nodes stamp in turn, each transaction goes to all of four partitions, and after every
+//! eighth round all of them report and the positions are raised.
 
 ghost use Rattle.std.specs.Prelude.{◌≡◌, ◌<◌, ◌≤◌, ◌*◌, IfOk};
 ghost use Rattle.kin_world.specs.Worlds.{WorldView, HasRoom};
@@ -44,7 +44,7 @@ pub fn open(alloc: Global, n: u64) -> Result<World, Memory>
     for node in 0..3 {
         write_feed(&mut texts[node as usize], node, records)?;
     }
-    shapes::open(alloc, &texts)
+    shapes::open(alloc, &texts, &[])
 }
 
 // The event after `n` others.
