@@ -12,9 +12,9 @@ let go after the next; what is kept at the end of `epochs` isn't freed. A line o
 beyond another one: `worlds N steps` is `forward` beyond `open`, which reads the feeds and opens the world, so N events
 of a world; `commits N stamps` is `cuts` beyond `open`, the same records stamped, delivered, agreed and cut;
 `commits N commits` is `forward` beyond `cuts`, the commits; and `epochs N singles` is `ones` beyond `before`, the same
-200,000 records, so N epochs of one record. `mining N 0`, `2` and `16` are a hundred epochs of N records each, or as
-many as 100,000 records make, mined from so many landmarks after 200,000 records as one epoch; with `-open` they are
-left out, and `0-epochs`, `2-epochs` and `16-epochs` are the epochs alone, their commits among them.
+200,000 records, so N epochs of one record. `mining N 0`, `2` and `16` are ten epochs of N records each, mined from so
+many landmarks after 200,000 records as one epoch; with `-open` they are left out, and `0-epochs`, `2-epochs` and
+`16-epochs` are the epochs alone, their commits among them.
 """
 import argparse
 import os

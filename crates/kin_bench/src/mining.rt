@@ -16,7 +16,7 @@ const BEFORE: u64 = 200_000;
 // The most records of all short epochs together, and the most epochs.
 const AFTER: u64 = 100_000;
 
-const EPOCHS: u64 = 100;
+const EPOCHS: u64 = 10;
 
 // The landmarks, of which the first ones are taken.
 const LANDMARKS: [User; 16] = [

@@ -8,6 +8,7 @@ pub mod Nets
 pub mod Orders
 pub mod Cuts
 pub mod Entries
+pub mod Tallies
 pub mod Top
 pub mod Instances
 pub mod Counts

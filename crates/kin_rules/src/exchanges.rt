@@ -7,11 +7,13 @@ ghost use Rattle.kin_ids.specs.Users.{has_user, tag_cmp, user_cmp};
 ghost use Rattle.kin_rules.specs.Columns.{AreOf, columns_of};
 ghost use Rattle.kin_rules.specs.Results.{expo_in, has_tag};
 ghost use Rattle.kin_rules.specs.ResultChanges.{IsWider};
+ghost use Rattle.kin_rules.specs.Scratches.{AreLists};
 
 use crate::columns::Walks;
+use crate::numbers::KCount;
 use crate::results::EpochResult;
 use crate::widenings::{columns_by, lists_of, numbers_by, places_of};
-use kin_ids::{Memory, Tag, User};
+use kin_ids::{ListOf, Memory, Tag, User};
 use std::mem::replace;
 
 impl EpochResult {
@@ -126,6 +128,22 @@ impl EpochResult {
         self.tags = other.tags;
         self.tag_users = other.tag_users;
         self.expos = other.expos;
+    }
+
+    /// Takes these ranks of the users, in their order. It takes no memory, and costs O(n).
+    pub fn put_ranks(&mut self, ranks: &[u64])
+        requires { length ranks.now ≡ length self.old.users }
+        ensures { self.new ≡ record self.old { ranks = ranks.now } }
+    {
+        self.ranks.copy_from_slice(ranks);
+    }
+
+    /// Takes these exposures of the tags in use, in their order. It takes no memory.
+    pub fn put_exposures(&mut self, lists: Vec<ListOf<KCount>>)
+        requires { AreLists self.old.tags lists.items }
+        ensures { self.new ≡ record self.old { expos = lists.items } }
+    {
+        self.expos = lists;
     }
 
     /// Takes the ranks and the exposures of another result of the same users and tags. It takes no memory.

@@ -1,11 +1,12 @@
 //! How many users of each tag have which exposure.
 
 ghost use Rattle.std.specs.Prelude.{◌≡◌, ◌<◌, ◌+◌, ◌==◌, ◌++◌, ◌∷◌, ℕ, List, [], IfOk, OnOk, if◌then◌else◌};
-ghost use Rattle.std.specs.Prelude.{count_by, length, map, nat_lt, replicate, slice_index, slice_set};
+ghost use Rattle.std.specs.Prelude.{All, count_by, length, map, nat_lt, replicate, slice_index, slice_set};
 ghost use Rattle.kin_rules.specs.declared.exposure_rules.UseK.{UseK};
 ghost use Rattle.std.specs.List.Sorted.{IsStrictlySortedBy};
 ghost use Rattle.kin_ids.specs.Users.{tag_cmp};
-ghost use Rattle.kin_rules.specs.ExposureLists.{counted, counted_one, ks_of, listed};
+ghost use Rattle.kin_rules.specs.ExposureLists.{AreTallies, IsTally, counted, counted_one, ks_of, listed};
+ghost use Rattle.kin_rules.specs.Scratches.{AreLists};
 
 use crate::exposure_rules::UseK;
 use crate::numbers::KCount;
@@ -107,6 +108,41 @@ pub(crate) fn exposure_lists(
     for (i, row) in rows.iter().enumerate() {
         let counts = counts_below(alloc, row, tag_users[i])?;
         lists.push(ListOf::of(list_of(alloc, &counts)?))?;
+    }
+    Ok(lists)
+}
+
+// A number past all of these.
+fn past_all(ks: &[u64]) -> Result<u64, Memory>
+    ensures { IfOk result (λ n. All (λ k. k < n) ks.now) }
+{
+    let mut n: u64 = 0;
+    for k in ks {
+        let past = k.checked_add(1).ok_or(Memory)?;
+        n = n.max(past);
+    }
+    Ok(n)
+}
+
+// Which of these numbers there are, and how often. It takes room for the greatest.
+fn tally_of(alloc: Global, ks: &[u64]) -> Result<ListOf<KCount>, Memory>
+    ensures { IfOk result (λ list. IsTally ks.now list) }
+{
+    let counts = counts_below(alloc, ks, past_all(ks)?)?;
+    Ok(ListOf::of(list_of(alloc, &counts)?))
+}
+
+/// Of each tag which numbers its entries have, ascending, and how many have each. O(log t) an entry for t tags, and room
+/// for the greatest number of each tag.
+pub fn tally(alloc: Global, tags: &[Tag], entries: &[UseK]) -> Result<Vec<ListOf<KCount>>, Memory>
+    requires { IsStrictlySortedBy tag_cmp tags.now }
+    ensures lists { IfOk result (λ lists. AreLists tags.now lists.items) }
+    ensures tallies { IfOk result (λ lists. AreTallies entries.now tags.now lists.items) }
+{
+    let rows = rows_of_tags(alloc, tags, entries)?;
+    let mut lists = Vec::with_capacity(alloc, tags.len())?;
+    for row in &rows {
+        lists.push(tally_of(alloc, row.as_slice())?)?;
     }
     Ok(lists)
 }

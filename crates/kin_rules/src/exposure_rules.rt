@@ -23,7 +23,7 @@ pub type UseKs = ListOf<UseK>;
 /// For each tag that a user has used, how many of those whom it follows used it before. One layer over those whom a
 /// user follows.
 #[derive(Clone, Copy, Debug, PartialEq, Eq)]
-pub(crate) struct Exposure;
+pub struct Exposure;
 
 fn is_before(a: &Place, b: &Place) -> bool
     ensures { result ≡ users.is_before a.now b.now }

@@ -12,7 +12,7 @@ use std::alloc::Global;
 /// Each user passes half of its rank on, in equal shares, with a million of its own. Eight layers over those who
 /// follow a user.
 #[derive(Clone, Copy, Debug, PartialEq, Eq)]
-pub(crate) struct Rank;
+pub struct Rank;
 
 const MOST: u64 = 1_000_000_000_000_000;
 

@@ -183,7 +183,7 @@ fn tag_rows<V: View, L: Ledger>(
     })
 }
 
-// A column of hops and one of closeness from each landmark.
+// A column of hops and one of closeness from each landmark. Where there is none, no edge is read.
 fn walks_of<V: View, L: Ledger>(
     alloc: Global,
     view: &V,
@@ -201,6 +201,12 @@ fn walks_of<V: View, L: Ledger>(
     ensures close { IfOk result (λ w. (g : Graph) → IsViewOf g (V.seen view.now)
         → columns_of w.close.items ≡ map (λ l. column_by (close_of g l) index.now) landmarks.now) }
 {
+    if landmarks.is_empty() {
+        return Ok(Walks {
+            hops: Vec::new(alloc),
+            close: Vec::new(alloc),
+        });
+    }
     let follows = Edges::follows(alloc, view, index, steps)?;
     let mentions = Edges::mentions(alloc, view, index, steps)?;
     let hops = walk_columns(alloc, index, &follows, &mentions, Distance::Hops, landmarks)?;
