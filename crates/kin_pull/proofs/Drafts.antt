@@ -158,3 +158,10 @@ module _ {V : Type 0} (r : LayerRule V) (v : PartView) (us : List User) (k : Kep
         };
       };
     }
+
+-- the same of a plan
+pub draft-entered : {V : Type 0} (r : LayerRule V) (v : PartView) (us : List User) (k : KeptView V) → IsLayerRule r → (top : ℕ)
+    → IsKept top us k → On r top v us k → (plan draft : List (List (Option V))) → draft ≡ plan → IsDraft r v us k top plan
+    → (new : KeptView V) → IsTaken draft k new → On r top v us new
+draft-entered {V} r v us k laws top kept on plan draft same is new taken = taken-on r v us k laws top kept on draft
+    (subst (λ (d : List (List (Option V))). IsDraft r v us k top d) (sym same) is) new taken

@@ -1,9 +1,10 @@
 -- What a turn leaves.
 use Rattle.std.proofs.Common.{◌≡◌, ◌≢◌, ◌<◌, ◌≤◌, ◌+◌, ◌∙◌, ◌⊎◌, inl, inr, ◌||◌, ◌&&◌, nat_lt, eqb, add-one, ℕ, zero, suc, Bool, true}
-use Rattle.std.proofs.Common.{false, List, [], ◌∷◌, ◌++◌, map, length, get_or, Option, Some, None, is_some, unwrap_or, All, IfSome}
+use Rattle.std.proofs.Common.{false, List, [], ◌∷◌, ◌++◌, map, length, get_or, slice_get, Option, Some, None, is_some, unwrap_or, All, IfSome}
 use Rattle.std.proofs.Common.{if◌then◌else◌, arith, refl, sym, ap, ap₂, subst}
 use Rattle.std.proofs.lemmas.Bool.{both_ways, or_left, or_right, or_parts, or_cases, and_parts}
 use Rattle.std.proofs.lemmas.Bool.Decides.{nat_tests}
+use Rattle.std.proofs.lemmas.Option.{unwrap_or-slice_get}
 use Rattle.std.proofs.lemmas.List.{get_or_default, get_or_append_left, get_or_push, length_push}
 use Rattle.kin_ids.specs.declared.ids.User.{User}
 use Rattle.kin_ids.specs.Users.{same_user, has_user}
@@ -19,8 +20,9 @@ use Rattle.kin_rules.specs.LayerTables.{facts_seen, neighbours_seen}
 use Rattle.kin_rules.specs.Places.{place}
 use Rattle.kin_rules.proofs.Places.{place-lt}
 use Rattle.kin_pull.specs.Keeping.{PullNet, Keeping, IsStanding, IsAtRest, next_of, shows}
-use Rattle.kin_pull.specs.States.{KeptView, IsKept, On, value_in, now_in, told_in, is_fresh, is_from, low_in, active_at, is_active, keeping}
+use Rattle.kin_pull.specs.States.{KeptView, IsKept, On, row_in, value_in, now_in, told_in, is_fresh, is_from, low_in, active_at, is_active, keeping}
 use Rattle.kin_pull.specs.States.{net_in, opposite}
+use Rattle.kin_pull.specs.TurnPlans.{TurnPlanView, IsTurnPlan, planned_value}
 use Rattle.kin_pull.specs.TurnSteps.{IsColumn, IsTurnedOver, column_at, turned_at, turned_in, turned_input, shows_turned}
 use Rattle.kin_pull.specs.Turns.{IsTurn, IsMoved, IsRested}
 use Rattle.kin_pull.proofs.Marks.{past-last, place-same, places-there, places-has, there-at}
@@ -342,33 +344,84 @@ away-quiet us k u told low none = ap₂ (λ (a : Option ℕ) (b : Option Facts).
     (past-last us k.told u None told none)
 
 -- places of readers are below the length
-pub readers-below : (us ys : List User) (o : Option ℕ) (row : List ℕ) → row ≡ (if is_some o then places_of us ys else []) → (n : ℕ)
+readers-below : (us ys : List User) (o : Option ℕ) (row : List ℕ) → row ≡ (if is_some o then places_of us ys else []) → (n : ℕ)
     → n ≡ length us → All (λ p. p < n) row
 readers-below us ys None row e n long = subst (λ (ns : List ℕ). All (λ p. p < n) ns) (sym e) (λ p d lt. absurd (omega (arith, lt)))
 readers-below us ys (Some l) row e n long = ends-below us ys row e n long
 
-pub record IsMade {V : Type 0} (r : LayerRule V) (top : ℕ) (v : PartView) (us : List User) (u : User) (k new : KeptView V) : Type 0 where
+pub planned-below : {V : Type 0} (r : LayerRule V) (top : ℕ) (v : PartView) (us : List User) (k : KeptView V) (u : User)
+    (plan inside : TurnPlanView V) → inside ≡ plan → IsTurnPlan r top v us k u plan → (readers : List ℕ) → readers ≡ inside.readers
+    → (n : ℕ) → n ≡ length us → All (λ p. p < n) readers
+planned-below {V} r top v us k u plan inside view is readers same n long = readers-below us (neighbours_seen (opposite r.side) v u) plan.from
+    readers (same ∙ (ap (λ (p : TurnPlanView V). p.readers) view ∙ is.readers)) n long
+
+-- what is kept once a turn is made
+pub record IsMade {V : Type 0} (r : LayerRule V) (top : ℕ) (v : PartView) (us : List User) (u : User) (plan : TurnPlanView V)
+    (k new : KeptView V) : Type 0 where
   pub on : On r top v us new
   pub rested : IsRested r (net_in r.side v us new) top (keeping r.first us new) u
   pub moved : IsMoved (net_in r.side v us k) top u (keeping r.first us k) (keeping r.first us new)
+  pub row : (j p : ℕ) (d : V) → get_or (row_in new j) p d
+      ≡ (if eqb p (place us u) then unwrap_or (planned_value plan j) d else get_or (row_in k j) p d)
+
+module _ {V : Type 0} (r : LayerRule V) (top : ℕ) (v : PartView) (us : List User) (k : KeptView V) (kept : IsKept top us k) (u : User)
+    (plan : TurnPlanView V) (is : IsTurnPlan r top v us k u plan) (readers : List ℕ) (new : KeptView V)
+    (over : IsTurnedOver plan.place plan.column plan.from readers k new) where
+  either : {X : Type 0} (b : Bool) (x : X) → x ≡ (if b then x else x)
+  either true x = refl
+  either false x = refl
+
+  -- rows past the last layer
+  past-row : (j : ℕ) → top ≤ j → (p : ℕ) (d : V) → get_or (get_or new.rows j []) p d
+      ≡ (if eqb p (place us u) then unwrap_or (slice_get plan.column j) d else get_or (get_or k.rows j []) p d)
+  past-row j le p d =
+      let a : length new.rows ≤ j = omega (arith, le, over.rows, kept.layers) in
+      let b : length k.rows ≤ j = omega (arith, le, kept.layers) in
+      let c : length plan.column ≤ j = omega (arith, le, is.column.long) in
+      ap (λ (row : List V). get_or row p d) (get-past new.rows j [] a) ∙ (either (eqb p (place us u)) d
+      ∙ ap₂ (λ (x y : V). if eqb p (place us u) then x else y) (sym (unwrap_or-slice_get plan.column j d ∙ get-past plan.column j d c))
+      (sym (ap (λ (row : List V). get_or row p d) (get-past k.rows j [] b))))
+
+  -- places past the last user
+  past-place : (j : ℕ) → j < top → (p : ℕ) (d : V) → length us ≤ p → get_or (get_or new.rows j []) p d
+      ≡ (if eqb p (place us u) then unwrap_or (slice_get plan.column j) d else get_or (get_or k.rows j []) p d)
+  past-place j lt p d le =
+      let a : length (get_or new.rows j []) ≤ p = omega (arith, le, over.longs j, kept.rows j lt) in
+      let b : length (get_or k.rows j []) ≤ p = omega (arith, le, kept.rows j lt) in
+      let apart : eqb p (place us u) ≡ false = let at = is.at in let within = is.within in grind (arith, nat_tests, at, within, le) in
+      get-past (get_or new.rows j []) p d a ∙ (sym (get-past (get_or k.rows j []) p d b)
+      ∙ sym (ap (λ (b : Bool). if b then unwrap_or (slice_get plan.column j) d else get_or (get_or k.rows j []) p d) apart))
+
+  pub turned-row : (j p : ℕ) (d : V) → get_or (row_in new j) p d
+      ≡ (if eqb p (place us u) then unwrap_or (planned_value plan j) d else get_or (row_in k j) p d)
+  turned-row zero p d = either (eqb p (place us u)) d
+  turned-row (suc j) p d = here (nat_lt j top) refl (nat_lt p (length us)) refl
+    where
+      here : (b : Bool) → nat_lt j top ≡ b → (c : Bool) → nat_lt p (length us) ≡ c → get_or (get_or new.rows j []) p d
+          ≡ (if eqb p (place us u) then unwrap_or (slice_get plan.column j) d else get_or (get_or k.rows j []) p d)
+      here false e c h = past-row j (grind (arith, nat_tests, e)) p d
+      here true e false h = past-place j (grind (arith, nat_tests, e)) p d (grind (arith, nat_tests, h))
+      here true e true h =
+          let lt : j < top = grind (arith, nat_tests, e) in
+          let below : p < length us = grind (arith, nat_tests, h) in
+          over.each j p d (omega (arith, lt, kept.layers)) (omega (arith, below, kept.rows j lt))
+          ∙ ap₂ (λ (n : ℕ) (x : V). if eqb p n then x else get_or (get_or k.rows j []) p d) is.at
+          (sym (unwrap_or-slice_get plan.column j d))
 
 pub turn-made : {V : Type 0} (r : LayerRule V) → IsLayerRule r → (top : ℕ) (v : PartView) (us : List User) (k : KeptView V)
-    → IsKept top us k → On r top v us k → (u : User) (i : ℕ) → (i ≡ place us u) × (i < length us) × (is_active us k u ≡ true)
-    → (column slice : List V) → slice ≡ column → IsColumn r v us k u top column → (from : Option ℕ) → ((j : ℕ) → j < top
-    → is_from from (j + 1) ≡ false → shows_turned r us k slice u j ≡ false)
-    → IfSome from (λ l. (j : ℕ) × (l ≡ j + 1) × (j < top) × (shows_turned r us k slice u j ≡ true))
-    → (side : Side) → side ≡ opposite r.side → (row readers : List ℕ) → readers ≡ row
-    → row ≡ (if is_some from then places_of us (neighbours_seen side v u) else []) → (new : KeptView V)
-    → IsTurnedOver i column from readers k new → IsMade r top v us u k new
-turn-made {V} r laws top v us k kept on u i at column slice same is from hidden shown side opp row readers row-same row-is new over =
-    let hides : (j : ℕ) → j < top → is_from from (j + 1) ≡ false → shows_turned r us k column u j ≡ false
-    = subst (λ (c : List V). (j : ℕ) → j < top → is_from from (j + 1) ≡ false → shows_turned r us k c u j ≡ false) same hidden in
-    let shows-some : IfSome from (λ l. (j : ℕ) × (l ≡ j + 1) × (j < top) × (shows_turned r us k column u j ≡ true))
-    = subst (λ (c : List V). IfSome from (λ l. (j : ℕ) × (l ≡ j + 1) × (j < top) × (shows_turned r us k c u j ≡ true))) same shown in
-    let are : readers ≡ (if is_some from then places_of us (neighbours_seen (opposite r.side) v u) else [])
-    = row-same ∙ (row-is ∙ ap (λ (s : Side). if is_some from then places_of us (neighbours_seen s v u) else []) opp) in
+    → IsKept top us k → On r top v us k → (u : User) (plan inside : TurnPlanView V) → inside ≡ plan → IsTurnPlan r top v us k u plan
+    → (readers : List ℕ) → readers ≡ inside.readers → (new : KeptView V)
+    → IsTurnedOver inside.place inside.column inside.from readers k new → IsMade r top v us u plan k new
+turn-made {V} r laws top v us k kept on u plan inside view is readers same new over =
+    let i = plan.place in
+    let column = plan.column in
+    let from = plan.from in
+    let at = sym is.at in
+    let are = same ∙ (ap (λ (n : TurnPlanView V). n.readers) view ∙ is.readers) in
+    let turned = subst (λ (n : TurnPlanView V). IsTurnedOver n.place n.column n.from readers k new) view over in
     record {
-      on = turned-on r laws top v us k kept on u i (sym at.0) at.1 column is from hides shows-some readers are new over;
-      rested = turned-rested r laws top v us k kept on u i (sym at.0) at.1 column is from hides shows-some readers are new over;
-      moved = turned-moved r laws top v us k kept on u i (sym at.0) at.1 column is from hides shows-some readers are new over;
+      on = turned-on r laws top v us k kept on u i at is.within column is.column from is.hidden is.shown readers are new turned;
+      rested = turned-rested r laws top v us k kept on u i at is.within column is.column from is.hidden is.shown readers are new turned;
+      moved = turned-moved r laws top v us k kept on u i at is.within column is.column from is.hidden is.shown readers are new turned;
+      row = turned-row r top v us k kept u plan is readers new turned;
     }

@@ -4,6 +4,7 @@ pub mod Settles
 pub mod Passes
 pub mod Turns
 pub mod TurnSteps
+pub mod TurnPlans
 pub mod Begins
 pub mod Plans
 pub mod Engines

@@ -75,6 +75,10 @@ pub record IsTaken {V : Type 0} (draft : List (List (Option V))) (old new : Kept
   pub low : (length new.low ≡ length old.low) × ((i : ℕ) → slice_index_or new.low i None ≡ None)
   pub mixed : new.mixed ≡ false
 
+-- what stands at a place of a layer once a draft is taken over: the value that was computed again, or else the one that is kept
+abbrev pub drafted_at : {V : Type 0} → List (List (Option V)) → KeptView V → ℕ → ℕ → V → V
+drafted_at draft k j i d = unwrap_or (slice_index_or (row_of draft j) i None) (slice_index_or (row_in k j) i d)
+
 -- the places of the neighbours on a side of those users of whom they were looked up
 pub record AreRead (s : Side) (v : PartView) (us : List User) (ends : List (Option (List ℕ))) : Type 0 where
   pub long : length ends ≡ length us

@@ -2,6 +2,7 @@
 #![tactic(auto)]
 
 pub mod begins;
+mod deltas;
 mod ends;
 pub mod engines;
 pub mod kept;
@@ -14,5 +15,5 @@ pub mod turns;
 pub use begins::plan;
 pub use engines::PullEngine;
 pub use kept::Kept;
-pub use settles::settle;
-pub use turns::{least_active, make_turn};
+pub use settles::{SettlePlan, enter_settle, plan_settle, settle};
+pub use turns::{TurnPlan, enter_turn, least_active, make_turn, plan_turn};

@@ -25,8 +25,8 @@ use kin_rules::{Facts, Lent, PullRule};
 use std::alloc::Global;
 use std::sync::ledger::Ledger;
 
-// The value at a place that was computed again, or else the one that is kept.
-fn drawn_value<'a, V: Drop>(
+/// The value at a place that was computed again, or else the one that is kept.
+pub(crate) fn drawn_value<'a, V: Drop>(
     kept: &'a Kept<V>,
     first: &'a V,
     layer: u32,

@@ -1,7 +1,8 @@
 //! The turn of a user.
 
 ghost use Rattle.std.specs.Prelude.{◌≡◌, ◌+◌, ◌<◌, ◌≤◌, ◌==◌, ◌&&◌, ◌||◌, ◌^◌, ℕ, Bool, true, false, List, [], Option, Some, None, IfOk};
-ghost use Rattle.std.specs.Prelude.{IfSome, OnErr, OnOk, Ok, All, is_some, length, map, slice_index_or, unwrap_or, if◌then◌else◌};
+ghost use Rattle.std.specs.Prelude.{IfSome, OnErr, OnOk, Ok, All, is_some, length, map, option_copied, slice_index_or, unwrap_or};
+ghost use Rattle.std.specs.Prelude.{if◌then◌else◌};
 ghost use Rattle.kin_ids.specs.declared.ids.User.{User};
 ghost use Rattle.std.specs.List.Sorted.{IsStrictlySortedBy};
 ghost use Rattle.kin_ids.specs.Users.{has_user, user_cmp};
@@ -13,6 +14,7 @@ ghost use Rattle.kin_rules.specs.Layers.{lent};
 ghost use Rattle.kin_rules.specs.Places.{place};
 ghost use Rattle.kin_pull.specs.Keeping.{next_of};
 ghost use Rattle.kin_pull.specs.States.{IsKept, IsQuiet, On, is_active, is_from, keeping, net_in, opposite, row_in};
+ghost use Rattle.kin_pull.specs.TurnPlans.{IsTurnPlan, planned_value};
 ghost use Rattle.kin_pull.specs.TurnSteps.{IsColumn, IsTurnedOver, column_at, shows_turned, turned_at, turned_in, turned_input};
 ghost use Rattle.kin_pull.specs.Turns.{IsMoved, IsRested};
 
@@ -23,7 +25,38 @@ use kin_graph::{Steps, View};
 use kin_ids::{Memory, User};
 use kin_rules::{Lent, PullRule, Side, Turn};
 use std::alloc::Global;
+use std::marker::Model;
 use std::sync::ledger::Ledger;
+
+/// A turn that is planned: the new values of its user in each layer above layer 0, and to which of its readers a change
+/// shows, from which layer on.
+#[derive(Drop)]
+pub struct TurnPlan<V: Drop> {
+    place: usize,
+    column: Vec<V>,
+    from: Option<u32>,
+    readers: Vec<usize>,
+}
+
+impl<V: Drop> Model for TurnPlan<V> {
+    ghost use Rattle.kin_pull.specs.TurnPlans.{TurnPlanView};
+
+    ghost Value = { TurnPlanView V };
+
+    ghost view = { λ a. record { place = a.place; column = a.column.items; from = a.from; readers = a.readers.items } };
+}
+
+impl<V: Drop> TurnPlan<V> {
+    /// The user's new value in a layer above layer 0, with nothing where there is no such layer. O(1).
+    pub fn value(&self, layer: u32) -> Option<&V>
+        ensures { option_copied result ≡ planned_value self.now layer }
+    {
+        if layer == 0 {
+            return None;
+        }
+        self.column.as_slice().get(layer as usize - 1)
+    }
+}
 
 // The value of the turning user in a layer.
 fn own_value<'a, V: Drop>(first: &'a V, column: &'a [V], layer: u32) -> &'a V
@@ -227,6 +260,78 @@ fn active_place<V: Drop>(users: &[User], kept: &Kept<V>, u: User) -> Option<usiz
     }
 }
 
+/// The turn of a user, to be entered later: each of its layers is computed again, of its inputs' kept values. None where
+/// the user isn't active, and then nothing is read. Nothing changes, after Memory too. It costs O(log n) for each edge
+/// into and out of the user, and for each layer a step for each input.
+pub fn plan_turn<R: PullRule, V: View, L: Ledger>(
+    alloc: Global,
+    rule: &R,
+    users: &[User],
+    kept: &Kept<R::Value>,
+    view: &V,
+    u: User,
+    steps: &mut Steps<L>,
+) -> Result<Option<TurnPlan<R::Value>>, Memory>
+    requires kept { IsKept R.LAYERS users.now kept.now }
+    requires on { On (R.seen rule.now) R.LAYERS (V.seen view.now) users.now kept.now }
+    ensures which { IfOk result (λ plan. is_some plan ≡ is_active users.now kept.now u) }
+    ensures idle { is_active users.now kept.now u ≡ false → (steps.new ≡ steps.old) × (result ≡ Ok None) }
+    ensures plan { IfOk result (λ o. IfSome o (IsTurnPlan (R.seen rule.now) R.LAYERS (V.seen view.now) users.now kept.now u)) }
+    ensures values { IfOk result (λ o. IfSome o (λ plan. (j : ℕ) → 0 < j → j ≤ R.LAYERS
+        → is_some (planned_value plan j) ≡ true)) }
+{
+    let Some(place) = active_place(users, kept, u) else {
+        return Ok(None);
+    };
+    let first = rule.first(alloc)?;
+    let column = column(alloc, rule, users, kept, &first, view, place, u, steps)?;
+    let from = shown_from(rule, users, kept, &first, column.as_slice(), place, u);
+    let readers = readers(alloc, users, view, opposite(rule.side()), from, u, steps)?;
+    Ok(Some(TurnPlan {
+        place,
+        column,
+        from,
+        readers,
+    }))
+}
+
+/// Makes a turn that was planned on what is kept: the user has its planned values, is active no longer and at rest, and
+/// those of its readers become active to whom a change shows. It takes no memory. It costs a step for each layer and for
+/// each of these readers.
+pub fn enter_turn<R: PullRule, V: View>(
+    rule: &R,
+    users: &[User],
+    kept: &mut Kept<R::Value>,
+    view: &V,
+    u: User,
+    plan: TurnPlan<R::Value>,
+)
+    requires kept { IsKept R.LAYERS users.now kept.old }
+    requires on { On (R.seen rule.now) R.LAYERS (V.seen view.now) users.now kept.old }
+    requires plan { IsTurnPlan (R.seen rule.now) R.LAYERS (V.seen view.now) users.now kept.old u plan }
+    ensures kept { IsKept R.LAYERS users.now kept.new }
+    ensures on { On (R.seen rule.now) R.LAYERS (V.seen view.now) users.now kept.new }
+    ensures turned { is_active users.now kept.new u ≡ false }
+    ensures rested { IsRested (R.seen rule.now) (net_in (R.seen rule.now).side (V.seen view.now) users.now kept.new) R.LAYERS
+        (keeping (R.seen rule.now).first users.now kept.new) u }
+    ensures moved { IsMoved (net_in (R.seen rule.now).side (V.seen view.now) users.now kept.old) R.LAYERS u
+        (keeping (R.seen rule.now).first users.now kept.old) (keeping (R.seen rule.now).first users.now kept.new) }
+    ensures row { (j p : ℕ) (d : R.Value) → slice_index_or (row_in kept.new j) p d
+        ≡ (if p == place users.now u then unwrap_or (planned_value plan j) d else slice_index_or (row_in kept.old j) p d) }
+{
+    let _ = rule;
+    let _ = users;
+    let _ = view;
+    let _ = u;
+    let TurnPlan {
+        place,
+        column,
+        from,
+        readers,
+    } = plan;
+    kept.turn_over(place, column, from, readers.as_slice());
+}
+
 /// The turn of a user: each of its layers is computed again, of its inputs' kept values, and those of its readers become
 /// active to whom a change shows. Then it isn't active, and is at rest. After Memory all is as before. It costs O(log n)
 /// for each edge into and out of the user, and for each layer a step for each input.
@@ -254,14 +359,10 @@ pub fn make_turn<R: PullRule, V: View, L: Ledger>(
         (keeping (R.seen rule.now).first users.now kept.old) (keeping (R.seen rule.now).first users.now kept.new)) }
     ensures err { OnErr result (kept.new ≡ kept.old) }
 {
-    let Some(i) = active_place(users, kept, u) else {
+    let Some(plan) = plan_turn(alloc, rule, users, kept, view, u, steps)? else {
         return Ok(Turn::Idle);
     };
-    let first = rule.first(alloc)?;
-    let column = column(alloc, rule, users, kept, &first, view, i, u, steps)?;
-    let from = shown_from(rule, users, kept, &first, column.as_slice(), i, u);
-    let row = readers(alloc, users, view, opposite(rule.side()), from, u, steps)?;
-    kept.turn_over(i, column, from, row.as_slice());
+    enter_turn(rule, users, kept, view, u, plan);
     Ok(Turn::Turned)
 }
 

@@ -1,0 +1,14 @@
+use Rattle.std.proofs.Common.{◌≡◌, true, length, take}
+use Rattle.kin_ids.specs.declared.ids.User.{User}
+use Rattle.kin_ids.specs.Users.{has_user}
+use Rattle.kin_changes.specs.Told.{pairs_of}
+use Rattle.kin_pull.specs.Plans.{facts_at, with_more}
+use Rattle.kin_pull.proofs.deltas.add_all.Given as goal
+
+-- so far
+abbrev pub invariant-loop-delta : goal.invariant-loop-delta
+invariant-loop-delta l = record {
+  long : length l.facts.items ≡ length l.users;
+  facts : (x : User) → has_user l.users x ≡ true → facts_at l.users l.facts.items x
+      ≡ with_more (pairs_of (λ d. d.now_out) (take l.delta-index l.deltas) x) (facts_at l.users l.initial.facts.items x);
+}
