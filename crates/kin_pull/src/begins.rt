@@ -98,7 +98,8 @@ fn rows<R: PullRule>(
     more: &[User],
 ) -> Result<Vec<Vec<R::Value>>, Memory>
     requires kept { IsKept R.LAYERS users.now kept.now }
-    ensures { IfOk result (λ rows. AreCopied (R.seen rule.now).first users.now kept.now more.now R.LAYERS (map (λ r. r.items) rows.items)) }
+    ensures { IfOk result (λ rows. AreCopied (R.seen rule.now).first users.now kept.now more.now R.LAYERS
+        (map (λ r. r.items) rows.items)) }
 {
     let first = rule.first(alloc)?;
     let mut rows = Vec::new(alloc);
@@ -139,7 +140,8 @@ fn all_told<V: Drop>(
     requires marks { length marks.now ≡ length more.now }
     ensures long { IfOk result (λ told. length told.items ≡ length more.now) }
     ensures told { IfOk result (λ told. (i : ℕ) (d : User) → i < length more.now → slice_index_or told.items i None
-        ≡ (if slice_index_or marks.now i false then Some (now_in users.now kept.now (slice_index_or more.now i d)) else None)) }
+        ≡ (if slice_index_or marks.now i false then Some
+        (now_in users.now kept.now (slice_index_or more.now i d)) else None)) }
 {
     let mut told = Vec::with_capacity(alloc, more.len())?;
     for i in 0..more.len() {
@@ -179,7 +181,8 @@ fn starts<R: PullRule>(
     requires facts { length facts.now ≡ length wired.now }
     ensures long { IfOk result (λ low. length low.items ≡ length wired.now) }
     ensures starts { IfOk result (λ low. (i : ℕ) (df : Facts) → i < length wired.now → slice_index_or low.items i None
-        ≡ start_of (R.seen rule.now) (slice_index_or wired.now i false) (slice_index_or told.now i None) (slice_index_or facts.now i df)) }
+        ≡ start_of (R.seen rule.now) (slice_index_or wired.now i false) (slice_index_or told.now i None)
+        (slice_index_or facts.now i df)) }
 {
     let mut low = Vec::with_capacity(alloc, wired.len())?;
     for i in 0..wired.len() {

@@ -212,7 +212,8 @@ fn put_rows(users: &[User], facts: &mut Vec<Facts>, rows: &[UseRow]) -> Result<(
     requires long { length facts.old.items ≡ length users.now }
     ensures long { length facts.new.items ≡ length users.now }
     ensures facts { OnOk result ((x : User) → has_user users.now x ≡ true → facts_at users.now facts.new.items x
-        ≡ with_uses (map (λ row. row.entry) (filter (λ row. same_user x row.user) rows.now)) (facts_at users.now facts.old.items x)) }
+        ≡ with_uses (map (λ row. row.entry) (filter (λ row. same_user x row.user) rows.now))
+        (facts_at users.now facts.old.items x)) }
 {
     for row in rows {
         put_use(users, facts, row.user, row.entry)?;

@@ -1,6 +1,7 @@
 //! The places of neighbours, each looked up once.
 
-ghost use Rattle.std.specs.Prelude.{◌≡◌, ◌+◌, ◌<◌, ℕ, Some, None, IfOk, IfSome, OnOk, is_some, length, slice_index_or, slice_set};
+ghost use Rattle.std.specs.Prelude.{◌≡◌, ◌+◌, ◌<◌, ℕ, Some, None, IfOk, IfSome, OnOk, is_some, length, slice_index_or};
+ghost use Rattle.std.specs.Prelude.{slice_set};
 ghost use Rattle.std.specs.List.Sorted.{IsStrictlySortedBy};
 ghost use Rattle.kin_ids.specs.Users.{user_cmp};
 ghost use Rattle.kin_rules.specs.Edges.{places_of};
@@ -86,7 +87,8 @@ impl Ends {
         requires at { place users.now user ≡ i }
         requires read { AreRead side (V.seen view.now) users.now self.old }
         ensures read { AreRead side (V.seen view.now) users.now self.new }
-        ensures there { OnOk result (slice_index_or self.new i None ≡ Some (places_of users.now (neighbours_seen side (V.seen view.now) user))) }
+        ensures there { OnOk result (slice_index_or self.new i None
+            ≡ Some (places_of users.now (neighbours_seen side (V.seen view.now) user))) }
         ensures reads { steps.new ≡ steps.old + reads_on side (V.seen view.now) user }
     {
         let halves = halves_on(view, side, user, steps);

@@ -1,6 +1,7 @@
 //! An engine of a pull rule.
 
-ghost use Rattle.std.specs.Prelude.{◌≡◌, ◌≤◌, ◌+◌, ℕ, true, false, [], None, IfOk, IfSome, OnErr, OnOk, Ok, if◌then◌else◌};
+ghost use Rattle.std.specs.Prelude.{◌≡◌, ◌≤◌, ◌+◌, ℕ, true, false, [], None, IfOk, IfSome, OnErr, OnOk, Ok};
+ghost use Rattle.std.specs.Prelude.{if◌then◌else◌};
 ghost use Rattle.kin_ids.specs.declared.ids.User.{User};
 ghost use Rattle.kin_ids.specs.Parts.{PartView};
 ghost use Rattle.kin_graph.specs.Views.{AreVertices};
@@ -66,7 +67,8 @@ impl<R: PullRule + Drop> PullEngine<R> {
     pub fn begin(&mut self, deltas: &[Delta]) -> Result<(), Memory>
         requires { LeadOn self.old.users deltas.now }
         ensures rule { self.new.rule ≡ self.old.rule }
-        ensures begun { OnOk result (IsBegun (R.seen self.old.rule) deltas.now self.old.users self.old.kept self.new.users self.new.kept) }
+        ensures begun { OnOk result (IsBegun
+            (R.seen self.old.rule) deltas.now self.old.users self.old.kept self.new.users self.new.kept) }
         ensures on { OnOk result ((was is : PartView) → AreLed was is deltas.now → AreVertices was self.old.users
             → AreVertices is self.new.users × (On (R.seen self.old.rule) R.LAYERS was self.old.users self.old.kept
             → IsQuiet self.old.users self.old.kept
@@ -106,9 +108,10 @@ impl<R: PullRule + Drop> PullEngine<R> {
         ensures rule { self.new.rule ≡ self.old.rule }
         ensures users { self.new.users ≡ self.old.users }
         ensures on { On (R.seen self.old.rule) R.LAYERS (V.seen view.now) self.old.users self.new.kept }
-        ensures which { IfOk result (λ t. t ≡ (if is_active self.old.users self.old.kept u then turn.Turned else turn.Idle)) }
-        ensures idle { is_active self.old.users self.old.kept u ≡ false → (self.new ≡ self.old) × (steps.new ≡ steps.old)
-            × (result ≡ Ok turn.Idle) }
+        ensures which { IfOk result (λ t. t
+            ≡ (if is_active self.old.users self.old.kept u then turn.Turned else turn.Idle)) }
+        ensures idle { is_active self.old.users self.old.kept u ≡ false → (self.new ≡ self.old)
+            × (steps.new ≡ steps.old) × (result ≡ Ok turn.Idle) }
         ensures turned { OnOk result (is_active self.old.users self.new.kept u ≡ false) }
         ensures rested { OnOk result (is_active self.old.users self.old.kept u ≡ true → IsRested (R.seen self.old.rule)
             (net_in (R.seen self.old.rule).side (V.seen view.now) self.old.users self.new.kept) R.LAYERS (keeping
@@ -142,12 +145,14 @@ impl<R: PullRule + Drop> PullEngine<R> {
         ensures on { On (R.seen self.old.rule) R.LAYERS (V.seen view.now) self.old.users self.new.kept }
         ensures layers { OnOk result ((j : ℕ) (x : User) → j ≤ R.LAYERS → value_in
             (R.seen self.old.rule).first self.old.users self.new.kept j x
-            ≡ layer_in (R.seen self.old.rule) (net_in (R.seen self.old.rule).side (V.seen view.now) self.old.users self.old.kept) j x) }
+            ≡ layer_in (R.seen self.old.rule)
+            (net_in (R.seen self.old.rule).side (V.seen view.now) self.old.users self.old.kept) j x) }
         ensures quiet { OnOk result (IsQuiet self.old.users self.new.kept) }
         ensures reads { OnOk result (steps.new ≡ steps.old + settle_reads (R.seen self.old.rule)
-            (net_in (R.seen self.old.rule).side (V.seen view.now) self.old.users self.old.kept) (V.seen view.now) (keeping
-            (R.seen self.old.rule).first self.old.users self.old.kept) self.old.users R.LAYERS) }
-        ensures idle { IsQuiet self.old.users self.old.kept → (self.new ≡ self.old) × (steps.new ≡ steps.old) × (result ≡ Ok tt) }
+            (net_in (R.seen self.old.rule).side (V.seen view.now) self.old.users self.old.kept) (V.seen view.now)
+            (keeping (R.seen self.old.rule).first self.old.users self.old.kept) self.old.users R.LAYERS) }
+        ensures idle { IsQuiet self.old.users self.old.kept → (self.new ≡ self.old) × (steps.new ≡ steps.old)
+            × (result ≡ Ok tt) }
         ensures err { OnErr result (self.new ≡ self.old) }
     {
         settle(

@@ -1,6 +1,7 @@
 //! What is kept of users at their places.
 
-ghost use Rattle.std.specs.Prelude.{◌≡◌, ◌<◌, ◌≤◌, ◌+◌, ◌^◌, ◌==◌, ◌&&◌, ◌||◌, All, slice_set, if◌then◌else◌, ℕ, List, [], Option, Some};
+ghost use Rattle.std.specs.Prelude.{◌≡◌, ◌<◌, ◌≤◌, ◌+◌, ◌^◌, ◌==◌, ◌&&◌, ◌||◌, All, slice_set, if◌then◌else◌, ℕ, List};
+ghost use Rattle.std.specs.Prelude.{[], Option, Some};
 ghost use Rattle.std.specs.Prelude.{None, true, false, is_some, unwrap_or, length, map, slice_index_or, IfOk, IfSome};
 ghost use Rattle.kin_rules.specs.declared.pull_rules.Facts.{Facts};
 ghost use Rattle.kin_pull.specs.Passes.{IsTaken};
@@ -14,8 +15,8 @@ use std::alloc::Global;
 use std::marker::Model;
 use std::mem::swap;
 
-/// For each user at its place its value in each layer above layer 0, the facts of now, the facts that it told last where
-/// it has yet to tell those of now, and the least layer at which it is active.
+/// For each user at its place its value in each layer above layer 0, the facts of now, the facts that it told last
+/// where it has yet to tell those of now, and the least layer at which it is active.
 #[derive(Drop)]
 pub struct Kept<V: Drop> {
     rows: Vec<Vec<V>>,
@@ -119,7 +120,8 @@ impl<V: Drop> Kept<V> {
     pub(crate) fn told_facts(&self, i: usize) -> &Facts
         requires told { i < length self.now.told }
         requires facts { i < length self.now.facts }
-        ensures { (df : Facts) → result.now ≡ unwrap_or (slice_index_or self.now.told i None) (slice_index_or self.now.facts i df) }
+        ensures { (df : Facts) → result.now
+            ≡ unwrap_or (slice_index_or self.now.told i None) (slice_index_or self.now.facts i df) }
     {
         match &self.told[i] {
             Some(facts) => facts,
@@ -198,11 +200,13 @@ fn swap_at<V: Drop>(row: &mut Vec<V>, value: &mut V, i: usize)
 // Puts the values of a column to a place of each row.
 fn put_column<V: Drop>(rows: &mut Vec<Vec<V>>, column: &mut Vec<V>, i: usize)
     requires long { length rows.old.items ≡ length column.old.items }
-    requires within { (j : ℕ) → j < length rows.old.items → i < length (slice_index_or (map (λ r. r.items) rows.old.items) j []) }
+    requires within { (j : ℕ) → j < length rows.old.items
+        → i < length (slice_index_or (map (λ r. r.items) rows.old.items) j []) }
     ensures rows { length rows.new.items ≡ length rows.old.items }
     ensures longs { (j : ℕ) → length (slice_index_or (map (λ r. r.items) rows.new.items) j [])
         ≡ length (slice_index_or (map (λ r. r.items) rows.old.items) j []) }
-    ensures each { (j p : ℕ) (d : V) → j < length rows.old.items → p < length (slice_index_or (map (λ r. r.items) rows.old.items) j []) →
+    ensures each { (j p : ℕ) (d : V) → j < length rows.old.items
+        → p < length (slice_index_or (map (λ r. r.items) rows.old.items) j []) →
         slice_index_or (slice_index_or (map (λ r. r.items) rows.new.items) j []) p d
         ≡ (if p == i then slice_index_or column.old.items j d else slice_index_or (slice_index_or (map
         (λ r. r.items) rows.old.items) j []) p d) }
@@ -226,7 +230,8 @@ fn least(low: Option<u32>, from: u32) -> u32
 fn lower(low: &mut Vec<Option<u32>>, from: u32, p: usize)
     requires { p < length low.old.items }
     ensures long { length low.new.items ≡ length low.old.items }
-    ensures low { (q j : ℕ) → is_from (slice_index_or low.new.items q None) j ≡ (is_from (slice_index_or low.old.items q None) j ||
+    ensures low { (q j : ℕ) → is_from (slice_index_or low.new.items q None) j
+        ≡ (is_from (slice_index_or low.old.items q None) j ||
         (q == p && is_from (Some from) j)) }
 {
     low[p] = Some(least(low[p], from));
@@ -236,7 +241,8 @@ fn lower(low: &mut Vec<Option<u32>>, from: u32, p: usize)
 fn lower_each(low: &mut Vec<Option<u32>>, from: u32, places: &[usize])
     requires { All (λ p. p < length low.old.items) places.now }
     ensures long { length low.new.items ≡ length low.old.items }
-    ensures low { (q j : ℕ) → is_from (slice_index_or low.new.items q None) j ≡ (is_from (slice_index_or low.old.items q None) j ||
+    ensures low { (q j : ℕ) → is_from (slice_index_or low.new.items q None) j
+        ≡ (is_from (slice_index_or low.old.items q None) j ||
         (has_place places.now q && is_from (Some from) j)) }
 {
     for p in places {
@@ -248,7 +254,8 @@ fn lower_each(low: &mut Vec<Option<u32>>, from: u32, places: &[usize])
 fn lower_all(low: &mut Vec<Option<u32>>, from: Option<u32>, places: &[usize])
     requires { All (λ p. p < length low.old.items) places.now }
     ensures long { length low.new.items ≡ length low.old.items }
-    ensures low { (q j : ℕ) → is_from (slice_index_or low.new.items q None) j ≡ (is_from (slice_index_or low.old.items q None) j ||
+    ensures low { (q j : ℕ) → is_from (slice_index_or low.new.items q None) j
+        ≡ (is_from (slice_index_or low.old.items q None) j ||
         (has_place places.now q && is_from from j)) }
 {
     if let Some(from) = from {
@@ -285,8 +292,10 @@ fn first_busy(low: &[Option<u32>], told: &[Option<Facts>]) -> Option<usize>
     requires { length low.now ≡ length told.now }
     ensures some { IfSome result (λ i. (i < length low.now) × ((is_some (slice_index_or low.now i None) || is_some
         (slice_index_or told.now i None)) ≡ true)
-        × ((j : ℕ) → j < i → (is_some (slice_index_or low.now j None) || is_some (slice_index_or told.now j None)) ≡ false)) }
-    ensures none { result ≡ None → (j : ℕ) → (is_some (slice_index_or low.now j None) || is_some (slice_index_or told.now j None)) ≡ false }
+        × ((j : ℕ) → j < i → (is_some (slice_index_or low.now j None) || is_some (slice_index_or told.now j None))
+        ≡ false)) }
+    ensures none { result ≡ None → (j : ℕ)
+        → (is_some (slice_index_or low.now j None) || is_some (slice_index_or told.now j None)) ≡ false }
 {
     for i in 0..low.len() {
         if low[i].is_some() || told[i].is_some() {
@@ -324,7 +333,8 @@ fn put_over<V: Drop>(row: &mut Vec<V>, value: Option<V>, i: usize)
     requires { i < length row.old.items }
     ensures long { length row.new.items ≡ length row.old.items }
     ensures here { (d : V) → slice_index_or row.new.items i d ≡ unwrap_or value (slice_index_or row.old.items i d) }
-    ensures others { (j : ℕ) (d : V) → (j ≡ i → ⊥) → slice_index_or row.new.items j d ≡ slice_index_or row.old.items j d }
+    ensures others { (j : ℕ) (d : V) → (j ≡ i → ⊥) → slice_index_or row.new.items j d
+        ≡ slice_index_or row.old.items j d }
 {
     if let Some(value) = value {
         row[i] = value;
@@ -346,13 +356,14 @@ fn pour<V: Drop>(row: &mut Vec<V>, drawn: &mut Vec<Option<V>>)
 // Values at their places over those of rows.
 fn pour_all<V: Drop>(rows: &mut Vec<Vec<V>>, draft: &mut Vec<Vec<Option<V>>>)
     requires layers { length draft.old.items ≤ length rows.old.items }
-    requires long { (j : ℕ) → length (slice_index_or (map (λ r. r.items) draft.old.items) j []) ≤ length (slice_index_or (map
-        (λ r. r.items) rows.old.items) j []) }
+    requires long { (j : ℕ) → length (slice_index_or (map (λ r. r.items) draft.old.items) j []) ≤ length
+        (slice_index_or (map (λ r. r.items) rows.old.items) j []) }
     ensures rows { length rows.new.items ≡ length rows.old.items }
     ensures longs { (j : ℕ) → length (slice_index_or (map (λ r. r.items) rows.new.items) j [])
         ≡ length (slice_index_or (map (λ r. r.items) rows.old.items) j []) }
     ensures each { (j i : ℕ) (d : V) → slice_index_or (slice_index_or (map (λ r. r.items) rows.new.items) j []) i d
-        ≡ unwrap_or (slice_index_or (slice_index_or (map (λ r. r.items) draft.old.items) j []) i None) (slice_index_or (slice_index_or
+        ≡ unwrap_or (slice_index_or (slice_index_or (map (λ r. r.items) draft.old.items) j []) i None)
+        (slice_index_or (slice_index_or
         (map (λ r. r.items) rows.old.items) j []) i d) }
 {
     for j in 0..draft.len() {

@@ -1,6 +1,7 @@
 //! A settle layer by layer: who is due, and what is computed again.
 
-ghost use Rattle.std.specs.Prelude.{◌≡◌, ◌^◌, ◌+◌, ◌<◌, ◌≤◌, ◌&&◌, ◌||◌, ℕ, Bool, true, false, List, [], Option, Some, None, IfOk, IfSome};
+ghost use Rattle.std.specs.Prelude.{◌≡◌, ◌^◌, ◌+◌, ◌<◌, ◌≤◌, ◌&&◌, ◌||◌, ℕ, Bool, true, false, List, [], Option, Some};
+ghost use Rattle.std.specs.Prelude.{None, IfOk, IfSome};
 ghost use Rattle.std.specs.Prelude.{OnOk};
 ghost use Rattle.std.specs.Prelude.{All, unwrap_or, length, map, take, slice_index_or, if◌then◌else◌};
 ghost use Rattle.kin_ids.specs.declared.ids.User.{User};
@@ -11,7 +12,8 @@ ghost use Rattle.kin_rules.specs.LayerTables.{neighbours_seen};
 ghost use Rattle.kin_rules.specs.Layers.{lent};
 ghost use Rattle.kin_rules.specs.Places.{place};
 ghost use Rattle.kin_pull.specs.Keeping.{shows};
-ghost use Rattle.kin_pull.specs.Passes.{AreRead, AreSharesAt, IsAbove, above_in, changes_in, drawn_in, is_shown, lent_at, marked};
+ghost use Rattle.kin_pull.specs.Passes.{AreRead, AreSharesAt, IsAbove, above_in, changes_in, drawn_in, is_shown};
+ghost use Rattle.kin_pull.specs.Passes.{lent_at, marked};
 ghost use Rattle.kin_pull.specs.Passes.{tell_reads};
 ghost use Rattle.kin_pull.specs.Settles.{IsPassed, pass_reads, reads_on, sum_over};
 ghost use Rattle.kin_pull.specs.States.{IsKept, On, active_at, keeping, net_in, opposite, row_in};
@@ -33,7 +35,8 @@ pub(crate) fn drawn_value<'a, V: Drop>(
     drawn: &'a [Option<V>],
     i: usize,
 ) -> &'a V
-    ensures { result.now ≡ unwrap_or (slice_index_or drawn.now i None) (slice_index_or (row_in kept.now layer) i first.now) }
+    ensures { result.now ≡ unwrap_or (slice_index_or drawn.now i None)
+        (slice_index_or (row_in kept.now layer) i first.now) }
 {
     match drawn.get(i) {
         Some(Some(value)) => value,
@@ -105,7 +108,8 @@ fn changes<R: PullRule>(
 fn mark_all(marks: &mut Vec<bool>, ends: &[usize])
     requires { All (λ i. i < length marks.old.items) ends.now }
     ensures long { length marks.new.items ≡ length marks.old.items }
-    ensures marks { (k : ℕ) → slice_index_or marks.new.items k false ≡ (slice_index_or marks.old.items k false || has_place ends.now k) }
+    ensures marks { (k : ℕ) → slice_index_or marks.new.items k false
+        ≡ (slice_index_or marks.old.items k false || has_place ends.now k) }
 {
     for end in ends {
         marks[*end] = true;
@@ -141,7 +145,8 @@ fn tell<R: PullRule, V: View, L: Ledger>(
         || (changes_in (R.seen rule.now) users.now kept.now layer drawn.now user && has_user (neighbours_seen (opposite
         (R.seen rule.now).side) (V.seen view.now) user) x))) }
     ensures reads { OnOk result (steps.new ≡ steps.old
-        + (if changes_in (R.seen rule.now) users.now kept.now layer drawn.now user then reads_on (opposite (R.seen rule.now).side)
+        + (if changes_in (R.seen rule.now) users.now kept.now layer drawn.now user then reads_on
+        (opposite (R.seen rule.now).side)
         (V.seen view.now) user else 0)) }
 {
     if !changes(rule, users, kept, first, layer, drawn, i, user) {
@@ -195,7 +200,8 @@ fn active_marks<V: Drop>(
 ) -> Result<Vec<bool>, Memory>
     requires { length kept.now.low ≡ length users.now }
     ensures long { IfOk result (λ marks. length marks.items ≡ length users.now) }
-    ensures marks { IfOk result (λ marks. (x : User) → marked users.now marks.items x ≡ active_at users.now kept.now layer x) }
+    ensures marks { IfOk result (λ marks. (x : User) → marked users.now marks.items x
+        ≡ active_at users.now kept.now layer x) }
 {
     let _ = users;
     let mut marks = Vec::with_capacity(alloc, kept.low().len())?;
@@ -215,7 +221,8 @@ fn lend<'a, V: Drop>(
     ends: &[usize],
 ) -> Result<Vec<Lent<'a, V>>, Memory>
     requires { All (λ i. i < length kept.now.facts) ends.now }
-    ensures { IfOk result (λ v. (df : Facts) → lent v.items ≡ map (lent_at df first.now kept.now layer drawn.now) ends.now) }
+    ensures { IfOk result (λ v. (df : Facts) → lent v.items
+        ≡ map (lent_at df first.now kept.now layer drawn.now) ends.now) }
 {
     let mut inputs = Vec::with_capacity(alloc, ends.len())?;
     for end in ends {
@@ -238,7 +245,8 @@ fn shares_of<R: PullRule>(
     drawn: &[Option<R::Value>],
 ) -> Result<Option<Vec<u64>>, Memory>
     requires { length kept.now.facts ≡ length users.now }
-    ensures { IfOk result (λ o. IfSome o (λ v. AreSharesAt (R.share rule.now) first.now kept.now layer drawn.now v.items)) }
+    ensures { IfOk result (λ o. IfSome o
+        (λ v. AreSharesAt (R.share rule.now) first.now kept.now layer drawn.now v.items)) }
 {
     let mut shares = Vec::with_capacity(alloc, users.len())?;
     for i in 0..users.len() {
@@ -274,7 +282,8 @@ fn shares_if<R: PullRule>(
     marks: &[bool],
 ) -> Result<Option<Vec<u64>>, Memory>
     requires { length kept.now.facts ≡ length users.now }
-    ensures { IfOk result (λ o. IfSome o (λ v. AreSharesAt (R.share rule.now) first.now kept.now layer drawn.now v.items)) }
+    ensures { IfOk result (λ o. IfSome o
+        (λ v. AreSharesAt (R.share rule.now) first.now kept.now layer drawn.now v.items)) }
 {
     if !are_many(marks) {
         return Ok(None);
@@ -296,7 +305,8 @@ fn next_at<R: PullRule>(
 ) -> Result<R::Value, Memory>
     requires ends { All (λ p. p < length kept.now.facts) row.now }
     requires within { i < length kept.now.facts }
-    requires shares { IfSome shares.now (λ v. AreSharesAt (R.share rule.now) first.now kept.now layer drawn.now v.items) }
+    requires shares { IfSome shares.now
+        (λ v. AreSharesAt (R.share rule.now) first.now kept.now layer drawn.now v.items) }
     ensures { IfOk result (λ value. (df : Facts) → value ≡ (R.seen rule.now).next (slice_index_or kept.now.facts i df)
         (map (lent_at df first.now kept.now layer drawn.now) row.now)) }
 {
@@ -331,9 +341,11 @@ fn above<R: PullRule, V: View, L: Ledger>(
     requires within { i < length users.now }
     requires at { place users.now user ≡ i }
     requires ins { AreRead (R.seen rule.now).side (V.seen view.now) users.now ins.old }
-    requires shares { IfSome shares.now (λ v. AreSharesAt (R.share rule.now) first.now kept.now layer drawn.now v.items) }
+    requires shares { IfSome shares.now
+        (λ v. AreSharesAt (R.share rule.now) first.now kept.now layer drawn.now v.items) }
     ensures ins { AreRead (R.seen rule.now).side (V.seen view.now) users.now ins.new }
-    ensures value { IfOk result (λ value. value ≡ above_in (R.seen rule.now) (V.seen view.now) users.now kept.now layer drawn.now user) }
+    ensures value { IfOk result (λ value. value
+        ≡ above_in (R.seen rule.now) (V.seen view.now) users.now kept.now layer drawn.now user) }
     ensures reads { steps.new ≡ steps.old + reads_on (R.seen rule.now).side (V.seen view.now) user }
 {
     ins.read(alloc, users, view, rule.side(), i, user, steps)?;
@@ -373,11 +385,14 @@ fn above_if<R: PullRule, V: View, L: Ledger>(
     requires within { i < length users.now }
     requires at { place users.now user ≡ i }
     requires ins { AreRead (R.seen rule.now).side (V.seen view.now) users.now ins.old }
-    requires shares { IfSome shares.now (λ v. AreSharesAt (R.share rule.now) first.now kept.now layer drawn.now v.items) }
+    requires shares { IfSome shares.now
+        (λ v. AreSharesAt (R.share rule.now) first.now kept.now layer drawn.now v.items) }
     ensures ins { AreRead (R.seen rule.now).side (V.seen view.now) users.now ins.new }
     ensures value { IfOk result (λ value. value
-        ≡ (if due then Some (above_in (R.seen rule.now) (V.seen view.now) users.now kept.now layer drawn.now user) else None)) }
-    ensures reads { OnOk result (steps.new ≡ steps.old + (if due then reads_on (R.seen rule.now).side (V.seen view.now) user else 0)) }
+        ≡ (if due then Some (above_in (R.seen rule.now)
+        (V.seen view.now) users.now kept.now layer drawn.now user) else None)) }
+    ensures reads { OnOk result (steps.new
+        ≡ steps.old + (if due then reads_on (R.seen rule.now).side (V.seen view.now) user else 0)) }
 {
     if !due {
         return Ok(None);
@@ -407,12 +422,14 @@ fn all_above<R: PullRule, V: View, L: Ledger>(
     requires first { first.now ≡ (R.seen rule.now).first }
     requires long { length marks.now ≡ length users.now }
     requires ins { AreRead (R.seen rule.now).side (V.seen view.now) users.now ins.old }
-    requires shares { IfSome shares.now (λ v. AreSharesAt (R.share rule.now) first.now kept.now layer drawn.now v.items) }
+    requires shares { IfSome shares.now
+        (λ v. AreSharesAt (R.share rule.now) first.now kept.now layer drawn.now v.items) }
     ensures ins { AreRead (R.seen rule.now).side (V.seen view.now) users.now ins.new }
     ensures above { IfOk result (λ above. IsAbove (R.seen rule.now)
         (V.seen view.now) users.now kept.now layer drawn.now marks.now above.items) }
     ensures reads { OnOk result (steps.new ≡ steps.old
-        + sum_over (λ x. if marked users.now marks.now x then reads_on (R.seen rule.now).side (V.seen view.now) x else 0) users.now) }
+        + sum_over (λ x. if marked users.now marks.now x then reads_on (R.seen rule.now).side
+        (V.seen view.now) x else 0) users.now) }
 {
     let mut values = Vec::with_capacity(alloc, users.len())?;
     for i in 0..users.len() {
@@ -448,7 +465,8 @@ pub(crate) fn pass<R: PullRule, V: View, L: Ledger>(
     ensures ins { AreRead (R.seen rule.now).side (V.seen view.now) users.now ins.new }
     ensures outs { AreRead (opposite (R.seen rule.now).side) (V.seen view.now) users.now outs.new }
     ensures long { IfOk result (λ above. length above.items ≡ length users.now) }
-    ensures passed { IfOk result (λ above. IsPassed (R.seen rule.now) (net_in (R.seen rule.now).side (V.seen view.now) users.now kept.now)
+    ensures passed { IfOk result (λ above. IsPassed (R.seen rule.now)
+        (net_in (R.seen rule.now).side (V.seen view.now) users.now kept.now)
         (keeping (R.seen rule.now).first users.now kept.now) users.now layer (drawn_in
         (R.seen rule.now).first users.now kept.now layer drawn.now)
         (drawn_in (R.seen rule.now).first users.now kept.now (layer + 1) above.items)) }

@@ -1,6 +1,7 @@
 //! A settle: every layer of all who need it is computed again.
 
-ghost use Rattle.std.specs.Prelude.{◌≡◌, ◌+◌, ◌<◌, ◌≤◌, ℕ, List, [], None, IfOk, IfSome, OnErr, OnOk, Ok, length, map, slice_index_or};
+ghost use Rattle.std.specs.Prelude.{◌≡◌, ◌+◌, ◌<◌, ◌≤◌, ℕ, List, [], None, IfOk, IfSome, OnErr, OnOk, Ok, length, map};
+ghost use Rattle.std.specs.Prelude.{slice_index_or};
 ghost use Rattle.kin_ids.specs.declared.ids.User.{User};
 ghost use Rattle.kin_pull.specs.Keeping.{layer_in};
 ghost use Rattle.kin_pull.specs.Passes.{IsDraft, drafted_at};
@@ -96,7 +97,8 @@ pub fn plan_settle<R: PullRule, V: View, L: Ledger>(
     requires on { On (R.seen rule.now) R.LAYERS (V.seen view.now) users.now kept.now }
     ensures idle { IsQuiet users.now kept.now → (steps.new ≡ steps.old) × (result ≡ Ok None) }
     ensures none { IfOk result (λ plan. plan ≡ None → IsQuiet users.now kept.now) }
-    ensures draft { IfOk result (λ o. IfSome o (IsDraft (R.seen rule.now) (V.seen view.now) users.now kept.now R.LAYERS)) }
+    ensures draft { IfOk result (λ o. IfSome o
+        (IsDraft (R.seen rule.now) (V.seen view.now) users.now kept.now R.LAYERS)) }
     ensures reads { OnOk result (steps.new ≡ steps.old + settle_reads (R.seen rule.now) (net_in (R.seen rule.now).side
         (V.seen view.now) users.now kept.now) (V.seen view.now)
         (keeping (R.seen rule.now).first users.now kept.now) users.now R.LAYERS) }
@@ -149,7 +151,8 @@ pub fn settle<R: PullRule, V: View, L: Ledger>(
     requires on { On (R.seen rule.now) R.LAYERS (V.seen view.now) users.now kept.old }
     ensures kept { IsKept R.LAYERS users.now kept.new }
     ensures on { On (R.seen rule.now) R.LAYERS (V.seen view.now) users.now kept.new }
-    ensures layers { OnOk result ((j : ℕ) (x : User) → j ≤ R.LAYERS → value_in (R.seen rule.now).first users.now kept.new j x
+    ensures layers { OnOk result ((j : ℕ) (x : User) → j ≤ R.LAYERS
+        → value_in (R.seen rule.now).first users.now kept.new j x
         ≡ layer_in (R.seen rule.now) (net_in (R.seen rule.now).side (V.seen view.now) users.now kept.old) j x) }
     ensures quiet { OnOk result (IsQuiet users.now kept.new) }
     ensures reads { OnOk result (steps.new ≡ steps.old + settle_reads (R.seen rule.now) (net_in (R.seen rule.now).side

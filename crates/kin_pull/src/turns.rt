@@ -1,7 +1,9 @@
 //! The turn of a user.
 
-ghost use Rattle.std.specs.Prelude.{◌≡◌, ◌+◌, ◌<◌, ◌≤◌, ◌==◌, ◌&&◌, ◌||◌, ◌^◌, ℕ, Bool, true, false, List, [], Option, Some, None, IfOk};
-ghost use Rattle.std.specs.Prelude.{IfSome, OnErr, OnOk, Ok, All, is_some, length, map, option_copied, slice_index_or, unwrap_or};
+ghost use Rattle.std.specs.Prelude.{◌≡◌, ◌+◌, ◌<◌, ◌≤◌, ◌==◌, ◌&&◌, ◌||◌, ◌^◌, ℕ, Bool, true, false, List, [], Option};
+ghost use Rattle.std.specs.Prelude.{Some, None, IfOk};
+ghost use Rattle.std.specs.Prelude.{IfSome, OnErr, OnOk, Ok, All, is_some, length, map, option_copied, slice_index_or};
+ghost use Rattle.std.specs.Prelude.{unwrap_or};
 ghost use Rattle.std.specs.Prelude.{if◌then◌else◌};
 ghost use Rattle.kin_ids.specs.declared.ids.User.{User};
 ghost use Rattle.std.specs.List.Sorted.{IsStrictlySortedBy};
@@ -15,7 +17,8 @@ ghost use Rattle.kin_rules.specs.Places.{place};
 ghost use Rattle.kin_pull.specs.Keeping.{next_of};
 ghost use Rattle.kin_pull.specs.States.{IsKept, IsQuiet, On, is_active, is_from, keeping, net_in, opposite, row_in};
 ghost use Rattle.kin_pull.specs.TurnPlans.{IsTurnPlan, planned_value};
-ghost use Rattle.kin_pull.specs.TurnSteps.{IsColumn, IsTurnedOver, column_at, shows_turned, turned_at, turned_in, turned_input};
+ghost use Rattle.kin_pull.specs.TurnSteps.{IsColumn, IsTurnedOver, column_at, shows_turned, turned_at, turned_in};
+ghost use Rattle.kin_pull.specs.TurnSteps.{turned_input};
 ghost use Rattle.kin_pull.specs.Turns.{IsMoved, IsRested};
 
 use crate::kept::Kept;
@@ -99,7 +102,8 @@ fn lend_turned<'a, V: Drop>(
     ends: &[usize],
 ) -> Result<Vec<Lent<'a, V>>, Memory>
     requires { All (λ p. p < length kept.now.facts) ends.now }
-    ensures { IfOk result (λ v. (df : Facts) → lent v.items ≡ map (turned_input df first.now kept.now column.now i layer) ends.now) }
+    ensures { IfOk result (λ v. (df : Facts) → lent v.items
+        ≡ map (turned_input df first.now kept.now column.now i layer) ends.now) }
 {
     let mut inputs = Vec::with_capacity(alloc, ends.len())?;
     for end in ends {
@@ -148,7 +152,8 @@ fn column<R: PullRule, V: View, L: Ledger>(
     requires first { first.now ≡ (R.seen rule.now).first }
     requires within { i < length users.now }
     requires at { place users.now u ≡ i }
-    ensures { IfOk result (λ column. IsColumn (R.seen rule.now) (V.seen view.now) users.now kept.now u R.LAYERS column.items) }
+    ensures { IfOk result (λ column. IsColumn (R.seen rule.now)
+        (V.seen view.now) users.now kept.now u R.LAYERS column.items) }
 {
     let row = ends(alloc, users, halves_on(view, rule.side(), u, steps))?;
     let mut column = Vec::new(alloc);
@@ -249,7 +254,8 @@ fn active_place<V: Drop>(users: &[User], kept: &Kept<V>, u: User) -> Option<usiz
     requires ascend { IsStrictlySortedBy user_cmp users.now }
     requires told { length kept.now.told ≡ length users.now }
     requires low { length kept.now.low ≡ length users.now }
-    ensures some { IfSome result (λ i. (i ≡ place users.now u) × (i < length users.now) × (is_active users.now kept.now u ≡ true)) }
+    ensures some { IfSome result (λ i. (i ≡ place users.now u) × (i < length users.now)
+        × (is_active users.now kept.now u ≡ true)) }
     ensures none { result ≡ None → is_active users.now kept.now u ≡ false }
 {
     let i = find(users, u)?;
@@ -260,9 +266,9 @@ fn active_place<V: Drop>(users: &[User], kept: &Kept<V>, u: User) -> Option<usiz
     }
 }
 
-/// The turn of a user, to be entered later: each of its layers is computed again, of its inputs' kept values. None where
-/// the user isn't active, and then nothing is read. Nothing changes, after Memory too. It costs O(log n) for each edge
-/// into and out of the user, and for each layer a step for each input.
+/// The turn of a user, to be entered later: each of its layers is computed again, of its inputs' kept values. None
+/// where the user isn't active, and then nothing is read. Nothing changes, after Memory too. It costs O(log n) for each
+/// edge into and out of the user, and for each layer a step for each input.
 pub fn plan_turn<R: PullRule, V: View, L: Ledger>(
     alloc: Global,
     rule: &R,
@@ -276,7 +282,8 @@ pub fn plan_turn<R: PullRule, V: View, L: Ledger>(
     requires on { On (R.seen rule.now) R.LAYERS (V.seen view.now) users.now kept.now }
     ensures which { IfOk result (λ plan. is_some plan ≡ is_active users.now kept.now u) }
     ensures idle { is_active users.now kept.now u ≡ false → (steps.new ≡ steps.old) × (result ≡ Ok None) }
-    ensures plan { IfOk result (λ o. IfSome o (IsTurnPlan (R.seen rule.now) R.LAYERS (V.seen view.now) users.now kept.now u)) }
+    ensures plan { IfOk result (λ o. IfSome o
+        (IsTurnPlan (R.seen rule.now) R.LAYERS (V.seen view.now) users.now kept.now u)) }
     ensures values { IfOk result (λ o. IfSome o (λ plan. (j : ℕ) → 0 < j → j ≤ R.LAYERS
         → is_some (planned_value plan j) ≡ true)) }
 {
@@ -296,8 +303,8 @@ pub fn plan_turn<R: PullRule, V: View, L: Ledger>(
 }
 
 /// Makes a turn that was planned on what is kept: the user has its planned values, is active no longer and at rest, and
-/// those of its readers become active to whom a change shows. It takes no memory. It costs a step for each layer and for
-/// each of these readers.
+/// those of its readers become active to whom a change shows. It takes no memory. It costs a step for each layer and
+/// for each of these readers.
 pub fn enter_turn<R: PullRule, V: View>(
     rule: &R,
     users: &[User],
@@ -312,12 +319,14 @@ pub fn enter_turn<R: PullRule, V: View>(
     ensures kept { IsKept R.LAYERS users.now kept.new }
     ensures on { On (R.seen rule.now) R.LAYERS (V.seen view.now) users.now kept.new }
     ensures turned { is_active users.now kept.new u ≡ false }
-    ensures rested { IsRested (R.seen rule.now) (net_in (R.seen rule.now).side (V.seen view.now) users.now kept.new) R.LAYERS
+    ensures rested { IsRested (R.seen rule.now)
+        (net_in (R.seen rule.now).side (V.seen view.now) users.now kept.new) R.LAYERS
         (keeping (R.seen rule.now).first users.now kept.new) u }
     ensures moved { IsMoved (net_in (R.seen rule.now).side (V.seen view.now) users.now kept.old) R.LAYERS u
         (keeping (R.seen rule.now).first users.now kept.old) (keeping (R.seen rule.now).first users.now kept.new) }
     ensures row { (j p : ℕ) (d : R.Value) → slice_index_or (row_in kept.new j) p d
-        ≡ (if p == place users.now u then unwrap_or (planned_value plan j) d else slice_index_or (row_in kept.old j) p d) }
+        ≡ (if p == place users.now u then unwrap_or (planned_value plan j) d else slice_index_or
+        (row_in kept.old j) p d) }
 {
     let _ = rule;
     let _ = users;
@@ -332,9 +341,9 @@ pub fn enter_turn<R: PullRule, V: View>(
     kept.turn_over(place, column, from, readers.as_slice());
 }
 
-/// The turn of a user: each of its layers is computed again, of its inputs' kept values, and those of its readers become
-/// active to whom a change shows. Then it isn't active, and is at rest. After Memory all is as before. It costs O(log n)
-/// for each edge into and out of the user, and for each layer a step for each input.
+/// The turn of a user: each of its layers is computed again, of its inputs' kept values, and those of its readers
+/// become active to whom a change shows. Then it isn't active, and is at rest. After Memory all is as before. It costs
+/// O(log n) for each edge into and out of the user, and for each layer a step for each input.
 pub fn make_turn<R: PullRule, V: View, L: Ledger>(
     alloc: Global,
     rule: &R,
@@ -349,7 +358,8 @@ pub fn make_turn<R: PullRule, V: View, L: Ledger>(
     ensures kept { IsKept R.LAYERS users.now kept.new }
     ensures on { On (R.seen rule.now) R.LAYERS (V.seen view.now) users.now kept.new }
     ensures which { IfOk result (λ t. t ≡ (if is_active users.now kept.old u then turn.Turned else turn.Idle)) }
-    ensures idle { is_active users.now kept.old u ≡ false → (kept.new ≡ kept.old) × (steps.new ≡ steps.old) × (result ≡ Ok turn.Idle) }
+    ensures idle { is_active users.now kept.old u ≡ false → (kept.new ≡ kept.old) × (steps.new ≡ steps.old)
+        × (result ≡ Ok turn.Idle) }
     ensures turned { OnOk result (is_active users.now kept.new u ≡ false) }
     ensures rested { OnOk result (is_active users.now kept.old u ≡ true → IsRested (R.seen rule.now)
         (net_in (R.seen rule.now).side (V.seen view.now) users.now kept.new) R.LAYERS (keeping
@@ -369,7 +379,8 @@ pub fn make_turn<R: PullRule, V: View, L: Ledger>(
 /// The least user who is active. O(n).
 pub fn least_active<R: PullRule>(users: &[User], kept: &Kept<R::Value>) -> Option<User>
     requires { IsKept R.LAYERS users.now kept.now }
-    ensures some { IfSome result (λ u. (is_active users.now kept.now u ≡ true) × ((x : User) → is_active users.now kept.now x ≡ true
+    ensures some { IfSome result (λ u. (is_active users.now kept.now u ≡ true)
+        × ((x : User) → is_active users.now kept.now x ≡ true
         → u.0 ≤ x.0)) }
     ensures none { result ≡ None → IsQuiet users.now kept.now }
 {
