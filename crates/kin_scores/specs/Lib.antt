@@ -1,0 +1,4 @@
+pub mod Scores
+pub mod Plans
+pub mod Turns
+pub mod Planned
