@@ -11,6 +11,10 @@ pub ok-more : {T E : Type 0} (P Q : T → Type 0) (r : Result T E) → ((v : T) 
 ok-more P Q (Ok v) more h = more v h
 ok-more P Q (Err e) more h = tt
 
+pub map-after : {X Y Z : Type 0} (f : Y → Z) (g : X → Y) (xs : List X) → map f (map g xs) ≡ map (λ x. f (g x)) xs
+map-after f g [] = refl
+map-after {Z = Z} f g (x ∷ xs) = ap (λ (zs : List Z). f (g x) ∷ zs) (map-after f g xs)
+
 get-past : {X : Type 0} (xs : List X) (i : ℕ) (d : X) → length xs ≤ i → get_or xs i d ≡ d
 get-past [] i d le = refl
 get-past (x ∷ xs) zero d le = absurd (omega (arith, le))

@@ -1,9 +1,12 @@
 -- What turns do.
-use Rattle.std.specs.Prelude.{◌≡◌, ◌≢◌, ◌<◌, ◌≤◌, ◌⊎◌, ℕ, suc, true, false}
+use Rattle.std.specs.Prelude.{◌≡◌, ◌≢◌, ◌<◌, ◌≤◌, ◌+◌, ◌⊎◌, ℕ, suc, true, false, List, if◌then◌else◌}
 use Rattle.kin_ids.specs.declared.ids.User.{User}
 use Rattle.kin_ids.specs.Users.{same_user, has_user}
+use Rattle.kin_ids.specs.Parts.{PartView}
 use Rattle.kin_rules.specs.Layers.{LayerRule, IsLayerRule}
 use Rattle.kin_pull.specs.Keeping.{PullNet, Keeping, IsJoined, IsStanding, IsAtRest, shows}
+use Rattle.kin_pull.specs.Settles.{reads_on}
+use Rattle.kin_pull.specs.States.{KeptView, is_active, opposite}
 
 -- A turn of u: each layer of u is computed again, u has told its facts of now and is active no longer. Others keep their layers, and
 -- whoever
@@ -38,3 +41,7 @@ abbrev pub TurnLaw : Type 0 → Type 0
 TurnLaw V = (r : LayerRule V) (net : PullNet) (top : ℕ) (u : User) (e new : Keeping V) → IsLayerRule r → IsJoined net
     → IsStanding r net top e → IsTurn r net top u e new
     → IsStanding r net top new
+
+-- The most that a turn of u reads: once the edges to its inputs and once those to its readers where u is active, and else nothing.
+abbrev pub turn_reads : {V : Type 0} → LayerRule V → PartView → List User → KeptView V → User → ℕ
+turn_reads r v us k u = if is_active us k u then reads_on r.side v u + reads_on (opposite r.side) v u else 0

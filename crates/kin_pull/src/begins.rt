@@ -6,9 +6,10 @@ ghost use Rattle.std.specs.List.Sorted.{IsStrictlySortedBy};
 ghost use Rattle.kin_ids.specs.declared.ids.User.{User};
 ghost use Rattle.kin_ids.specs.Users.{has_user, user_cmp};
 ghost use Rattle.kin_rules.specs.declared.pull_rules.Facts.{Facts};
+ghost use Rattle.kin_rules.specs.Places.{place};
 ghost use Rattle.kin_pull.specs.Begins.{IsBegun, is_rewired, is_touched};
 ghost use Rattle.kin_pull.specs.Plans.{AreCopied, start_of};
-ghost use Rattle.kin_pull.specs.States.{IsKept, now_in, value_in};
+ghost use Rattle.kin_pull.specs.States.{IsKept, now_in, row_in, value_in};
 
 use crate::deltas::{change_facts, touched_marks, wired_marks};
 use crate::kept::Kept;
@@ -53,23 +54,38 @@ fn all_facts<V: Drop>(
     Ok(facts)
 }
 
-// A copy of the value of a user in a layer.
-fn value_of<R: PullRule>(
+// The places that more users have among these.
+fn places(alloc: Global, users: &[User], more: &[User]) -> Result<Vec<usize>, Memory>
+    requires { IsStrictlySortedBy user_cmp users.now }
+    ensures { IfOk result (λ places. places.items ≡ map (place users.now) more.now) }
+{
+    let mut places = Vec::with_capacity(alloc, more.len())?;
+    for user in more {
+        places.push(place_of(users, *user))?;
+    }
+    Ok(places)
+}
+
+// Copies of the values at these places in a layer.
+fn values_at<R: PullRule>(
     alloc: Global,
     rule: &R,
-    users: &[User],
     kept: &Kept<R::Value>,
     first: &R::Value,
     layer: u32,
-    u: User,
-) -> Result<R::Value, Memory>
-    requires kept { IsKept R.LAYERS users.now kept.now }
-    ensures { IfOk result (λ value. value ≡ value_in first.now users.now kept.now layer u) }
+    places: &[usize],
+) -> Result<Vec<R::Value>, Memory>
+    ensures { IfOk result (λ row. row.items
+        ≡ map (λ p. slice_index_or (row_in kept.now layer) p first.now) places.now) }
 {
-    rule.copy(alloc, kept.value(first, layer, place_of(users, u)))
+    let mut values = Vec::with_capacity(alloc, places.len())?;
+    for place in places {
+        values.push(rule.copy(alloc, kept.value(first, layer, *place))?)?;
+    }
+    Ok(values)
 }
 
-// Copies of the values of more users in a layer.
+// Copies of the values of more users in a layer, who have these places.
 fn row<R: PullRule>(
     alloc: Global,
     rule: &R,
@@ -78,15 +94,14 @@ fn row<R: PullRule>(
     first: &R::Value,
     layer: u32,
     more: &[User],
+    places: &[usize],
 ) -> Result<Vec<R::Value>, Memory>
-    requires kept { IsKept R.LAYERS users.now kept.now }
+    requires { places.now ≡ map (place users.now) more.now }
     ensures { IfOk result (λ row. row.items ≡ map (value_in first.now users.now kept.now layer) more.now) }
 {
-    let mut values = Vec::with_capacity(alloc, more.len())?;
-    for user in more {
-        values.push(value_of(alloc, rule, users, kept, first, layer, *user)?)?;
-    }
-    Ok(values)
+    let _ = users;
+    let _ = more;
+    values_at(alloc, rule, kept, first, layer, places)
 }
 
 // Copies of the values of more users in each layer.
@@ -102,9 +117,19 @@ fn rows<R: PullRule>(
         (map (λ r. r.items) rows.items)) }
 {
     let first = rule.first(alloc)?;
+    let places = places(alloc, users, more)?;
     let mut rows = Vec::new(alloc);
     for layer in 0..R::LAYERS {
-        rows.push(row(alloc, rule, users, kept, &first, layer + 1, more)?)?;
+        rows.push(row(
+            alloc,
+            rule,
+            users,
+            kept,
+            &first,
+            layer + 1,
+            more,
+            places.as_slice(),
+        )?)?;
     }
     Ok(rows)
 }
@@ -193,7 +218,8 @@ fn starts<R: PullRule>(
 
 /// What is kept where the epoch of these deltas begins, over the users that it has then: no layer changes, and who is
 /// new has the first value in each; the facts are those after the deltas; active are those an input of whom came or
-/// went, and those whose own facts make other values. It costs a look-up and a copy of each user's facts and layers.
+/// went, and those whose own facts make other values. It costs two look-ups of each user, and a copy of
+/// its facts and layers.
 pub fn plan<R: PullRule>(
     alloc: Global,
     rule: &R,

@@ -12,7 +12,7 @@ ghost use Rattle.kin_pull.specs.Engines.{LeadOn};
 ghost use Rattle.kin_pull.specs.Keeping.{layer_in};
 ghost use Rattle.kin_pull.specs.Settles.{settle_reads};
 ghost use Rattle.kin_pull.specs.States.{IsKept, IsQuiet, On, is_active, keeping, net_in, value_in};
-ghost use Rattle.kin_pull.specs.Turns.{IsMoved, IsRested};
+ghost use Rattle.kin_pull.specs.Turns.{IsMoved, IsRested, turn_reads};
 
 use crate::begins::plan;
 use crate::kept::Kept;
@@ -112,6 +112,8 @@ impl<R: PullRule + Drop> PullEngine<R> {
             ≡ (if is_active self.old.users self.old.kept u then turn.Turned else turn.Idle)) }
         ensures idle { is_active self.old.users self.old.kept u ≡ false → (self.new ≡ self.old)
             × (steps.new ≡ steps.old) × (result ≡ Ok turn.Idle) }
+        ensures reads { steps.new
+            ≤ steps.old + turn_reads (R.seen self.old.rule) (V.seen view.now) self.old.users self.old.kept u }
         ensures turned { OnOk result (is_active self.old.users self.new.kept u ≡ false) }
         ensures rested { OnOk result (is_active self.old.users self.old.kept u ≡ true → IsRested (R.seen self.old.rule)
             (net_in (R.seen self.old.rule).side (V.seen view.now) self.old.users self.new.kept) R.LAYERS (keeping

@@ -15,11 +15,12 @@ ghost use Rattle.kin_rules.specs.LayerTables.{neighbours_seen};
 ghost use Rattle.kin_rules.specs.Layers.{lent};
 ghost use Rattle.kin_rules.specs.Places.{place};
 ghost use Rattle.kin_pull.specs.Keeping.{next_of};
+ghost use Rattle.kin_pull.specs.Settles.{reads_on};
 ghost use Rattle.kin_pull.specs.States.{IsKept, IsQuiet, On, is_active, is_from, keeping, net_in, opposite, row_in};
 ghost use Rattle.kin_pull.specs.TurnPlans.{IsTurnPlan, planned_value};
 ghost use Rattle.kin_pull.specs.TurnSteps.{IsColumn, IsTurnedOver, column_at, shows_turned, turned_at, turned_in};
 ghost use Rattle.kin_pull.specs.TurnSteps.{turned_input};
-ghost use Rattle.kin_pull.specs.Turns.{IsMoved, IsRested};
+ghost use Rattle.kin_pull.specs.Turns.{IsMoved, IsRested, turn_reads};
 
 use crate::kept::Kept;
 use crate::passes::shows;
@@ -152,8 +153,9 @@ fn column<R: PullRule, V: View, L: Ledger>(
     requires first { first.now ≡ (R.seen rule.now).first }
     requires within { i < length users.now }
     requires at { place users.now u ≡ i }
-    ensures { IfOk result (λ column. IsColumn (R.seen rule.now)
+    ensures column { IfOk result (λ column. IsColumn (R.seen rule.now)
         (V.seen view.now) users.now kept.now u R.LAYERS column.items) }
+    ensures reads { steps.new ≡ steps.old + reads_on (R.seen rule.now).side (V.seen view.now) u }
 {
     let row = ends(alloc, users, halves_on(view, rule.side(), u, steps))?;
     let mut column = Vec::new(alloc);
@@ -240,8 +242,9 @@ fn readers<V: View, L: Ledger>(
     steps: &mut Steps<L>,
 ) -> Result<Vec<usize>, Memory>
     requires { IsStrictlySortedBy user_cmp users.now }
-    ensures { IfOk result (λ row. row.items ≡ (if is_some from then places_of users.now (neighbours_seen side
+    ensures row { IfOk result (λ row. row.items ≡ (if is_some from then places_of users.now (neighbours_seen side
         (V.seen view.now) u) else [])) }
+    ensures reads { steps.new ≤ steps.old + reads_on side (V.seen view.now) u }
 {
     if from.is_none() {
         return Ok(Vec::new(alloc));
@@ -282,6 +285,7 @@ pub fn plan_turn<R: PullRule, V: View, L: Ledger>(
     requires on { On (R.seen rule.now) R.LAYERS (V.seen view.now) users.now kept.now }
     ensures which { IfOk result (λ plan. is_some plan ≡ is_active users.now kept.now u) }
     ensures idle { is_active users.now kept.now u ≡ false → (steps.new ≡ steps.old) × (result ≡ Ok None) }
+    ensures reads { steps.new ≤ steps.old + turn_reads (R.seen rule.now) (V.seen view.now) users.now kept.now u }
     ensures plan { IfOk result (λ o. IfSome o
         (IsTurnPlan (R.seen rule.now) R.LAYERS (V.seen view.now) users.now kept.now u)) }
     ensures values { IfOk result (λ o. IfSome o (λ plan. (j : ℕ) → 0 < j → j ≤ R.LAYERS
@@ -360,6 +364,7 @@ pub fn make_turn<R: PullRule, V: View, L: Ledger>(
     ensures which { IfOk result (λ t. t ≡ (if is_active users.now kept.old u then turn.Turned else turn.Idle)) }
     ensures idle { is_active users.now kept.old u ≡ false → (kept.new ≡ kept.old) × (steps.new ≡ steps.old)
         × (result ≡ Ok turn.Idle) }
+    ensures reads { steps.new ≤ steps.old + turn_reads (R.seen rule.now) (V.seen view.now) users.now kept.old u }
     ensures turned { OnOk result (is_active users.now kept.new u ≡ false) }
     ensures rested { OnOk result (is_active users.now kept.old u ≡ true → IsRested (R.seen rule.now)
         (net_in (R.seen rule.now).side (V.seen view.now) users.now kept.new) R.LAYERS (keeping
