@@ -45,3 +45,12 @@ users_or (Some w) us = w.users
 -- the users that a result has once it is changed by the plan
 abbrev pub planned_users : CountPlan → ResultView → List User
 planned_users plan r = users_or plan.wide r.users
+
+-- the tags of other columns, where there are such, or these
+abbrev pub tags_or : Option ResultView → List (List ℕ) → List (List ℕ)
+tags_or None ts = ts
+tags_or (Some r) ts = r.tags
+
+-- the tags that a result has once it is changed by the plan
+abbrev pub planned_tags : CountPlan → ResultView → List (List ℕ)
+planned_tags plan r = tags_or plan.tagged r.tags

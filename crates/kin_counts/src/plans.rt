@@ -2,12 +2,12 @@
 
 ghost use Rattle.std.specs.Prelude.{◌≡◌, None, IfOk, IfSome};
 ghost use Rattle.kin_rules.specs.Results.{ResultView};
-ghost use Rattle.kin_counts.specs.Plans.{IsPlanOf, IsTaggedWhereNew, IsWideWhereNew, planned_users};
+ghost use Rattle.kin_counts.specs.Plans.{IsPlanOf, IsTaggedWhereNew, IsWideWhereNew, planned_tags, planned_users};
 
 use crate::tag_numbers::tag_numbers;
 use kin_changes::{next_tags, next_users};
 use kin_graph::Delta;
-use kin_ids::{Memory, User};
+use kin_ids::{Memory, Tag, User};
 use kin_rules::EpochResult;
 use std::alloc::Global;
 
@@ -27,6 +27,17 @@ impl CountPlan {
     {
         match &self.wide {
             Some(wide) => Some(wide.users()),
+            None => None,
+        }
+    }
+
+    /// The tags of the next epoch, ascending. None where the result's own stay. O(1).
+    pub fn tags(&self) -> Option<&[Tag]>
+        ensures none { result ≡ None → (r : ResultView) → planned_tags self.now r ≡ r.tags }
+        ensures some { IfSome result (λ ts. (r : ResultView) → planned_tags self.now r ≡ ts.now) }
+    {
+        match &self.tagged {
+            Some(tagged) => Some(tagged.tags()),
             None => None,
         }
     }

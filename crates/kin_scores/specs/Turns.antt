@@ -12,7 +12,7 @@ use Rattle.kin_pull.specs.Keeping.{layer_in}
 use Rattle.kin_pull.specs.Settles.{settle_reads}
 use Rattle.kin_pull.specs.States.{IsQuiet, KeptView, keeping, net_in, value_in}
 use Rattle.kin_pull.specs.States as kept
-use Rattle.kin_pull.specs.Turns.{IsMoved, IsRested}
+use Rattle.kin_pull.specs.Turns.{IsMoved, IsRested, turn_reads}
 use Rattle.kin_scores.specs.Scores.{ScoresView, is_active}
 
 -- By a turn of u its layers alone change, and u is active no longer. Where u was active it is at rest, and else nothing changes.
@@ -39,6 +39,10 @@ pub record AreSettled (v : PartView) (us : List User) (old new : ScoresView) : T
 -- what a turn of a user answers
 abbrev pub turn_of : List User → ScoresView → User → Turn
 turn_of us s u = if is_active us s u then turn.Turned else turn.Idle
+
+-- the most that a turn of a user reads by both rules
+abbrev pub most_reads : PartView → List User → ScoresView → User → ℕ
+most_reads v us s u = turn_reads rank_rule v us s.ranks u + turn_reads exposure_rule v us s.expos u
 
 -- what a settle reads by both rules
 abbrev pub scores_reads : PartView → List User → ScoresView → ℕ

@@ -34,8 +34,8 @@ impl Model for Scores {
     ghost view = { λ s. record { ranks = s.ranks; expos = s.expos } };
 }
 
-// The lesser of two users who may be there.
-fn lesser(a: Option<User>, b: Option<User>) -> Option<User>
+/// The lesser of two users who may be there.
+pub fn lesser(a: Option<User>, b: Option<User>) -> Option<User>
     ensures none { result ≡ None → (a ≡ None) × (b ≡ None) }
     ensures one { IfSome result (λ u. (a ≡ Some u) ⊎ (b ≡ Some u)) }
     ensures least { IfSome result (λ u. IfSome a (λ x. u.0 ≤ x.0) × IfSome b (λ x. u.0 ≤ x.0)) }

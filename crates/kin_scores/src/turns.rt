@@ -14,9 +14,10 @@ ghost use Rattle.kin_rules.specs.Scratches.{AreLists};
 ghost use Rattle.kin_pull.specs.States.{IsKept, On, row_in};
 ghost use Rattle.kin_pull.specs.States as kept;
 ghost use Rattle.kin_pull.specs.TurnPlans.{planned_value};
+ghost use Rattle.kin_pull.specs.Turns.{turn_reads};
 ghost use Rattle.kin_scores.specs.Planned.{AreMadeBy, IsExposurePlanned, IsPlanned, IsRowWith};
 ghost use Rattle.kin_scores.specs.Scores.{AreKept, AreShown, StandOn, entries_in, is_active};
-ghost use Rattle.kin_scores.specs.Turns.{AreTurned, IsTurnedBy, KeepsRest, turn_of};
+ghost use Rattle.kin_scores.specs.Turns.{AreTurned, IsTurnedBy, KeepsRest, most_reads, turn_of};
 
 use crate::scores::Scores;
 use kin_graph::{Steps, View};
@@ -105,6 +106,7 @@ fn plan_exposures<V: View, L: Ledger>(
     requires tags { IsStrictlySortedBy tag_cmp tags.now }
     ensures planned { IfOk result (IsExposurePlanned (V.seen view.now) users.now tags.now expos.now u) }
     ensures idle { kept.is_active users.now expos.now u ≡ false → (steps.new ≡ steps.old) × (result ≡ Ok None) }
+    ensures reads { steps.new ≤ steps.old + turn_reads exposure_rule (V.seen view.now) users.now expos.now u }
 {
     let Some(plan) = plan_turn(alloc, &Exposure, users, expos, view, u, steps)? else {
         return Ok(None);
@@ -190,6 +192,7 @@ impl Scores {
         ensures shown { AreShown self.new columns.new }
         ensures which { IfOk result (λ t. t ≡ turn_of columns.old.users self.old u) }
         ensures turns { OnOk result (AreTurned (V.seen view.now) columns.old.users u self.old self.new) }
+        ensures reads { steps.new ≤ steps.old + most_reads (V.seen view.now) columns.old.users self.old u }
         ensures rest { KeepsRest columns.old columns.new }
         ensures idle { is_active columns.old.users self.old u ≡ false → (steps.new ≡ steps.old) × (self.new ≡ self.old)
             × (columns.new ≡ columns.old) }
