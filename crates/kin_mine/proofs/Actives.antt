@@ -13,7 +13,8 @@ use Rattle.kin_ids.proofs.Same.{same_user-true, same_user-refl}
 use Rattle.kin_rules.specs.Places.{place}
 use Rattle.kin_rules.proofs.Places.{get-place, has-get, place-absent, place-lt}
 use Rattle.kin_rules.proofs.PlacedValues.{place-at}
-use Rattle.kin_mine.specs.Miners.{IsFirstPlace, IsLeastUser, are_quiet, is_marked, lesser_of}
+use Rattle.kin_mine.specs.Marks.{IsFirstPlace, are_quiet, is_marked, lesser_of}
+use Rattle.kin_mine.specs.Walkers.{AreLong, WalkersView, is_walking}
 use Rattle.kin_mine.proofs.Columns.{any-at, neither, none-filtered, none-of, quiet-marked}
 use Rattle.kin_mine.proofs.Firsts.{first-none}
 
@@ -57,6 +58,16 @@ filter-has p (x ∷ us) u h t = here (p x) refl (filter-has p us u)
     here true e rest = rw e (⊎_elim (λ (s : same_user u x ≡ true). or_left (same_user u x) (has_user (filter p us) u) s) (λ (l : has_user us u ≡ true). or_right (same_user u x) (has_user (filter p us) u) (rest l t)) (or_cases (same_user u x) (has_user us u) h))
     here false e rest = rw e (⊎_elim (λ (s : same_user u x ≡ true). absurd (both_ways (p x) e (subst (λ (y : User). p y ≡ true) (same_user-true u x s) t))) (λ (l : has_user us u ≡ true). rest l t) (or_cases (same_user u x) (has_user us u) h))
 
+-- where whoever passes is one of the users, the list of those who pass has just those who do
+pub has-filtered : (p : User → Bool) (us : List User) → ((u : User) → p u ≡ true → has_user us u ≡ true) → (u : User) → has_user (filter p us) u ≡ p u
+has-filtered p us inside u = split (has_user (filter p us) u) refl (p u) refl
+  where
+    split : (a : Bool) → has_user (filter p us) u ≡ a → (b : Bool) → p u ≡ b → has_user (filter p us) u ≡ p u
+    split true e true f = e ∙ sym f
+    split false e false f = e ∙ sym f
+    split true e false f = absurd (both_ways (p u) f (has-filter p us u e).1)
+    split false e true f = absurd (both_ways (has_user (filter p us) u) e (filter-has p us u (inside u f) f))
+
 module _ (users : List User) (hm cm : List (List Bool)) (h_long : (k : ℕ) → k < length hm → length (get_or hm k []) ≡ length users) (c_long : (k : ℕ) → k < length cm → length (get_or cm k []) ≡ length users) where
   abbrev active : User → Bool
   active u = is_marked users hm u || is_marked users cm u
@@ -86,37 +97,26 @@ module _ (users : List User) (hm cm : List (List Bool)) (h_long : (k : ℕ) → 
       split true e = e
       split false e = absurd (let p = place-absent users u e in omega (arith, p, lt))
 
-  active-there : (u : User) → active u ≡ true → has_user users u ≡ true
+  pub active-there : (u : User) → active u ≡ true → has_user users u ≡ true
   active-there u e = there u (⊎_elim (λ (h : is_marked users hm u ≡ true). below hm h_long (place users u) (marked-place hm u h)) (λ (h : is_marked users cm u ≡ true). below cm c_long (place users u) (marked-place cm u h)) (or_cases (is_marked users hm u) (is_marked users cm u) e))
-
-  -- the list of the active users has just those who are marked
-  pub has-active : (u : User) → has_user (filter active users) u ≡ active u
-  has-active u = split (has_user (filter active users) u) refl (active u) refl
-    where
-      split : (a : Bool) → has_user (filter active users) u ≡ a → (b : Bool) → active u ≡ b → has_user (filter active users) u ≡ active u
-      split true e true f = e ∙ sym f
-      split false e false f = e ∙ sym f
-      split true e false f = absurd (both_ways (active u) f (has-filter active users u e).1)
-      split false e true f = absurd (both_ways (has_user (filter active users) u) e (filter-has active users u (active-there u f) f))
-
-  pub none-active : are_quiet hm → are_quiet cm → filter active users ≡ []
-  none-active h c = none-filtered users active (λ u in-users. rw (quiet-marked users hm h u, quiet-marked users cm c u) refl)
 
   module _ (ascend : IsStrictlySortedBy user_cmp users) where
     rising : (i j : ℕ) (d : User) → i < j → j < length users → (get_or users i d).0 ≤ (get_or users j d).0
     rising i j d less lt = let e : user_cmp (get_or users i d) (get_or users j d) ≡ Less = Less-from_sorted user_cmp users i j d ascend less lt in grind (arith, nat_tests, e)
 
-    pub least-user : (i : ℕ) (d : User) → IsFirstMark hm cm i → IsLeastUser (filter active users) (get_or users i d)
-    least-user i d f =
-        let lt = mark-below i f in
-        let at : place users (get_or users i d) ≡ i = place-at users i d ascend lt in
-        let on : active (get_or users i d) ≡ true = ⊎_elim (λ (m : IsMarkedAt hm i). or_left (is_marked users hm (get_or users i d)) (is_marked users cm (get_or users i d)) (place-marked hm (get_or users i d) (subst (IsMarkedAt hm) (sym at) m)))
-        (λ (m : IsMarkedAt cm i). or_right (is_marked users hm (get_or users i d)) (is_marked users cm (get_or users i d)) (place-marked cm (get_or users i d) (subst (IsMarkedAt cm) (sym at) m))) f.marked in
-        record {
-          one = has-active (get_or users i d) ∙ on;
-          least = λ x h. least x (sym (has-active x) ∙ h);
-        }
+    pub least-marked : (i : ℕ) (d : User) → IsFirstMark hm cm i → (active (get_or users i d) ≡ true) × ((x : User) → active x ≡ true → (get_or users i d).0 ≤ x.0)
+    least-marked i d f = (on, least)
       where
+        lt : i < length users
+        lt = mark-below i f
+
+        at : place users (get_or users i d) ≡ i
+        at = place-at users i d ascend lt
+
+        on : active (get_or users i d) ≡ true
+        on = ⊎_elim (λ (m : IsMarkedAt hm i). or_left (is_marked users hm (get_or users i d)) (is_marked users cm (get_or users i d)) (place-marked hm (get_or users i d) (subst (IsMarkedAt hm) (sym at) m)))
+            (λ (m : IsMarkedAt cm i). or_right (is_marked users hm (get_or users i d)) (is_marked users cm (get_or users i d)) (place-marked cm (get_or users i d) (subst (IsMarkedAt cm) (sym at) m))) f.marked
+
         no-earlier : (x : User) → active x ≡ true → i ≤ place users x
         no-earlier x e = ⊎_elim (λ (less : place users x < i). absurd (earlier less)) (λ (ge : i ≤ place users x). ge) (cases_lt (place users x) i)
           where
@@ -134,6 +134,17 @@ module _ (users : List User) (hm cm : List (List Bool)) (h_long : (k : ℕ) → 
             ⊎_elim (λ (less : i < place users x). subst (λ (y : User). (get_or users i d).0 ≤ y.0) same (rising i (place users x) d less (place-lt users x in-users)))
             (λ (le : place users x ≤ i). let e2 : i ≡ place users x = omega (arith, ge, le) in subst (λ (y : User). (get_or users i d).0 ≤ y.0) same (subst (λ (p : ℕ). (get_or users i d).0 ≤ (get_or users p d).0) e2 (omega arith))) (cases_lt i (place users x))
 
-    -- where there is a first mark somebody is active
-    pub some-active : (i : ℕ) → IsFirstMark hm cm i → filter active users ≡ [] → ⊥
-    some-active i f none = let l = least-user i (record { 0 = 0 }) f in both_ways (has_user (filter active users) (get_or users i (record { 0 = 0 }))) (ap (λ (us : List User). has_user us (get_or users i (record { 0 = 0 }))) none) l.one
+-- the place that a look for the first mark of both kinds finds
+module _ (users : List User) (w : WalkersView) (long : AreLong users w) (hs cs : List (List Bool)) (hs_is : hs ≡ w.hop_marks) (cs_is : cs ≡ w.close_marks) (a b o : Option ℕ)
+    (an : a ≡ None → are_quiet hs) (at : IfSome a (λ i. IsFirstPlace hs i)) (bn : b ≡ None → are_quiet cs) (bt : IfSome b (λ i. IsFirstPlace cs i)) (o_is : o ≡ lesser_of a b) where
+  mark : (i : ℕ) → o ≡ Some i → IsFirstMark w.hop_marks w.close_marks i
+  mark i e =
+      subst (λ (x : List (List Bool)). IsFirstMark x w.close_marks i) hs_is
+      (subst (λ (x : List (List Bool)). IsFirstMark hs x i) cs_is
+      (subst (λ (x : Option ℕ). MatchOption x (are_quiet hs × are_quiet cs) (λ i. IsFirstMark hs cs i)) (sym o_is ∙ e) (both-first hs cs a b an at bn bt)))
+
+  pub place-below : (i : ℕ) → o ≡ Some i → i < length users
+  place-below i e = mark-below users w.hop_marks w.close_marks long.hops long.close i (mark i e)
+
+  pub least-walker : IsStrictlySortedBy user_cmp users → (i : ℕ) (d : User) → o ≡ Some i → (is_walking users w (get_or users i d) ≡ true) × ((x : User) → is_walking users w x ≡ true → (get_or users i d).0 ≤ x.0)
+  least-walker ascend i d e = least-marked users w.hop_marks w.close_marks long.hops long.close ascend i d (mark i e)

@@ -16,7 +16,7 @@ use Rattle.kin_rules.specs.Results.{ColumnView, no_column, value_in as column_va
 use Rattle.kin_mine.specs.declared.walk_rules.Distance.{Distance}
 use Rattle.kin_mine.specs.declared.walk_rules.Distance.TheVariants as distance
 use Rattle.kin_mine.specs.Lanes.{AreAllDone, Lanes, lanes, no_user}
-use Rattle.kin_mine.specs.Miners.{AreOn, AreStates, rule_of, state_at}
+use Rattle.kin_mine.specs.Marks.{AreOn, AreStates, rule_of, state_at}
 use Rattle.kin_mine.proofs.Columns.{column-value}
 use Rattle.kin_mine.specs.WalkRules.{rule-laws}
 

@@ -12,7 +12,7 @@ use Rattle.kin_rules.specs.Results.{ColumnView, value_of}
 use Rattle.kin_rules.proofs.Places.{place-lt, place-absent}
 use Rattle.kin_rules.proofs.PlacedValues.{place-at}
 use Rattle.kin_push.specs.States.{IsPushState, IsQuiet, PushState, is_active, state, value_in}
-use Rattle.kin_mine.specs.Miners.{are_quiet, is_marked}
+use Rattle.kin_mine.specs.Marks.{are_quiet, is_marked}
 
 -- a column without values of others has a user's value at its place
 pub column-value : (users : List User) (c : ColumnView) (marks : List Bool) (u : User) → length c.values ≡ length users → c.others ≡ [] → value_of users c u ≡ value_in (state users c.values marks) u

@@ -1,183 +1,206 @@
 -- A miner enters an epoch by its plan.
-use Rattle.std.proofs.Common.{◌≡◌, ◌<◌, ◌≤◌, ◌^◌, ◌∙◌, ◌||◌, ◌&&◌, ◌⊎◌, ⊎_elim, ℕ, zero, suc, Bool, true, false, cond, is_some, List, [], ◌∷◌, All, Option, Some, None, MatchOption, length, get_or, replicate, arith, refl, sym, ap, subst}
-use Rattle.std.specs.Prelude.{slice_get}
-use Rattle.std.specs.List.Sorted.{IsStrictlySortedBy}
-use Rattle.std.proofs.lemmas.Bool.{cases_lt, or_right}
-use Rattle.std.proofs.lemmas.List.{get_or-replicate, get_or_default, get_or_past, length-replicate}
+use Rattle.std.proofs.Common.{◌≡◌, ◌<◌, ◌≤◌, ◌^◌, ◌∙◌, ◌||◌, ℕ, Bool, true, List, [], Option, Some, None, length, get_or, arith, refl, sym, ap, subst}
+use Rattle.std.specs.Prelude.{slice_get, unwrap_or}
+use Rattle.std.proofs.lemmas.Bool.{or_right}
 use Rattle.kin_ids.specs.declared.ids.User.{User}
 use Rattle.kin_ids.specs.Graph.{Graph}
 use Rattle.kin_ids.specs.Parts.{PartView}
-use Rattle.kin_ids.specs.Users.{has_user, user_cmp}
+use Rattle.kin_ids.specs.Users.{has_user}
 use Rattle.kin_ids.specs.Wholes.{IsViewOf}
 use Rattle.kin_graph.specs.Deltas.{DeltaLists}
 use Rattle.kin_graph.specs.State.{PartState}
-use Rattle.kin_graph.specs.Views.{AreVertices, IsSmall}
-use Rattle.kin_graph.proofs.Wholes.{whole-vertex}
+use Rattle.kin_graph.specs.Views.{AreVertices, IsSmall, is_vertex}
 use Rattle.kin_blocks.specs.Snaps.{joined}
 use Rattle.kin_changes.specs.Told.{are_told}
 use Rattle.kin_changes.specs.Views.{AreLed}
 use Rattle.kin_changes.proofs.Members.{vertices-law}
-use Rattle.kin_counts.specs.Counts.{CountsOn, FitsNumbers, IsCountOf, KeepsOthers}
-use Rattle.kin_counts.specs.Plans.{planned_users}
-use Rattle.kin_push.specs.Begins.{Begins, IsEntered, is_started}
+use Rattle.kin_counts.specs.Counts.{CountsOn, IsCountOf, KeepsOthers}
+use Rattle.kin_counts.specs.Plans.{planned_tags, planned_users}
+use Rattle.kin_pull.specs.Begins.{IsBegun}
+use Rattle.kin_push.specs.Begins.{Begins, is_started}
 use Rattle.kin_push.proofs.EngineParts.{started-told}
-use Rattle.kin_rules.specs.Columns.{AreOf}
-use Rattle.kin_rules.specs.Results.{ColumnView, ResultView, no_column}
-use Rattle.kin_mine.specs.declared.plans.Fresh.{Fresh}
+use Rattle.kin_rules.specs.declared.numbers.KCount.{KCount}
+use Rattle.kin_rules.specs.ExposureRule.{exposure_rule}
+use Rattle.kin_rules.specs.RankRule.{rank_rule}
+use Rattle.kin_rules.specs.Results.{ColumnView, ResultView, close_in, hops_in, no_column}
+use Rattle.kin_scores.specs.Plans as scores
+use Rattle.kin_scores.specs.Scores.{AreKept, AreShown, ScoresView, StandOn}
+use Rattle.kin_scores.specs.Turns as score_turns
+use Rattle.kin_scores.proofs.Begun.{begins}
 use Rattle.kin_mine.specs.declared.plans.Plan.{Plan}
 use Rattle.kin_mine.specs.declared.walk_rules.Distance.{Distance}
 use Rattle.kin_mine.specs.declared.walk_rules.Distance.TheVariants as distance
 use Rattle.kin_mine.specs.Epochs.{BeginsOn, lane_of}
-use Rattle.kin_mine.specs.Lanes.{AreAllDone, lanes, no_user}
-use Rattle.kin_mine.specs.Miners.{AreOn, AreStates, HasGraph, IsMinerOf, IsMining, MinerView, active_in, are_quiet, rule_of, seen}
-use Rattle.kin_mine.specs.Plans.{IsFreshFor, IsPlanned, blank_marks}
+use Rattle.kin_mine.specs.Lanes.{no_user}
+use Rattle.kin_mine.specs.Marks.{AreBlank, AreOn, AreStates, rule_of, state_at}
+use Rattle.kin_mine.specs.Miners.{IsMinerOf, IsMining, MinerView, active_in, seen}
+use Rattle.kin_mine.specs.Plans.{IsFreshFor, IsPlanned}
+use Rattle.kin_mine.specs.Walkers.{AreEntered, AreFresh, HaveStates, KeepsRest, WalkOn, WalkersView}
 use Rattle.kin_mine.proofs.Begins.{begun-on, lane-begins}
-use Rattle.kin_mine.proofs.Calls.{miner_of}
-use Rattle.kin_mine.proofs.Entered.{same-tags, same-users, taken, taken-counts, taken-expos, taken-ranks}
 use Rattle.kin_mine.proofs.Fits.{fits}
-use Rattle.kin_mine.proofs.Mining.{close-lanes-quiet, close-quiet, hop-lanes-quiet, hops-quiet, marks-long}
+use Rattle.kin_mine.proofs.Fresh.{blank-marks}
+use Rattle.kin_mine.proofs.Mining.{close-lanes-quiet, hop-lanes-quiet, scores-quiet, still, walks-long}
+use Rattle.kin_mine.proofs.Next.{next-users, tags-same}
 
--- marks of columns, of whom nobody is marked
-pub record AreBlank (columns : ℕ) (users : List User) (marks : List (List Bool)) : Type 0 where
-  pub count : length marks ≡ columns
-  pub long : (k : ℕ) → k < columns → length (get_or marks k []) ≡ length users
-  pub quiet : are_quiet marks
+-- counts have nothing to do with the epoch, ranks, exposures and walks
+counts-free : (v : PartView) (r : ResultView) → IsCountOf v r → (k : ℕ) (hc kc : List ColumnView) (ns : List ℕ) (es : List (List KCount)) → IsCountOf v (record r { epoch = k; hops = hc; close = kc; ranks = ns; expos = es })
+counts-free v r c k hc kc ns es = record { users = c.users; tags_ascend = c.tags_ascend; tags = c.tags; ins = c.ins; outs = c.outs; said = c.said; tag_users = c.tag_users }
 
-blank-off : (n i : ℕ) → get_or (replicate n false) i false ≡ false
-blank-off zero i = refl
-blank-off (suc n) zero = refl
-blank-off (suc n) (suc i) = blank-off n i
+module _ (m : MinerView) (inv : IsMining m) (quiet : active_in m ≡ []) (v : PartView) (ds : List DeltaLists) (led : AreLed (seen m) v ds) (small : IsSmall v) (said : (u : User) → v.said u < 2 ^ 64)
+    (p : Plan) (planned : IsPlanned m ds p) (r1 : ResultView) (counts : CountsOn ds m.result r1) (keeps : KeepsOthers m.result r1) (users_are : r1.users ≡ planned_users p.counts m.result)
+    (alone_hops : (i : ℕ) → (get_or m.result.hops i no_column).others ≡ [] → (get_or r1.hops i no_column).others ≡ []) (alone_close : (i : ℕ) → (get_or m.result.close i no_column).others ≡ [] → (get_or r1.close i no_column).others ≡ []) where
+  next : AreVertices v (planned_users p.counts m.result)
+  next = next-users (seen m) v ds led m.result inv.counts p.counts planned.counts
 
-blank-marks : (columns : ℕ) (users us : List User) (marks : List (List Bool)) → us ≡ users → marks ≡ blank_marks columns (length us) → AreBlank columns users marks
-blank-marks columns users us marks same is = record {
-  count = ap length is ∙ length-replicate columns (replicate (length us) false);
-  long = λ k lt. ap (λ (ms : List (List Bool)). length (get_or ms k [])) is ∙ (ap length (get_or-replicate columns k (replicate (length us) false) [] lt) ∙ (length-replicate (length us) false ∙ ap length same));
-  quiet = λ k i. ap (λ (ms : List (List Bool)). get_or (get_or ms k []) i false) is ∙ off k i;
-}
-  where
-    off : (k i : ℕ) → get_or (get_or (blank_marks columns (length us)) k []) i false ≡ false
-    off k i = ⊎_elim (λ (lt : k < columns). ap (λ (on : List Bool). get_or on i false) (get_or-replicate columns k (replicate (length us) false) [] lt) ∙ blank-off (length us) i)
-        (λ (ge : columns ≤ k). rw (get_or_past (blank_marks columns (length us)) k [] (let n = length-replicate columns (replicate (length us) false) in omega (arith, n, ge))) refl) (cases_lt k columns)
+  pub counted : IsCountOf v r1
+  counted = counts (seen m) v led (fits v (planned_users p.counts m.result) led.after next (small (planned_users p.counts m.result) next) said) inv.counts
 
--- columns of so many users with such marks
-pub blank-states : (landmarks users : List User) (columns : List ColumnView) (marks : List (List Bool)) → IsStrictlySortedBy user_cmp users → length columns ≡ length landmarks → ((i : ℕ) → (get_or columns i no_column).others ≡ []) → AreOf (length users) columns
-    → AreBlank (length landmarks) users marks → AreStates landmarks users columns marks
-blank-states landmarks users columns marks ascend count alone fit blank = record {
-  columns_are = count;
-  marks_are = blank.count;
-  alone = alone;
-  states = λ i lt. record { ascend = ascend; valued = fit i no_column (omega (arith, lt, count)); marked = blank.long i lt };
-}
+  -- the plan of ranks and exposures is of these users and tags
+  pub scores-planned : scores.IsPlanOf r1.users r1.tags p.scores
+  scores-planned =
+      subst (λ (us : List User). scores.IsPlanOf us r1.tags p.scores) (sym users_are)
+      (subst (λ (ts : List (List ℕ)). scores.IsPlanOf (planned_users p.counts m.result) ts p.scores) (sym (tags-same (seen m) v ds led m.result inv.counts p.counts planned.counts r1 counted)) planned.scores)
 
--- columns with states are as long as the users
-pub states-fit : (ls us users : List User) (columns : List ColumnView) (marks : List (List Bool)) → us ≡ users → AreStates ls us columns marks → AreOf (length users) columns
-states-fit ls us users columns marks e are k d lt =
-    ap (λ (c : ColumnView). length c.values) (get_or_default columns k d no_column lt) ∙ ((are.states k (omega (arith, lt, are.columns_are))).valued ∙ ap (λ (x : List User). length x) e)
+  module _ (r2 : ResultView) (rest : score_turns.KeepsRest r1 r2) where
+    users-two : r2.users ≡ r1.users
+    users-two = ap (λ (x : ResultView). x.users) rest
 
--- a result that was counted, took over an evaluation, and had its columns of walks handed out and put back
-pub made-result : (r r1 r2 r3 r4 : ResultView) (hc kc : List ColumnView) (k : ℕ) (e : ResultView) → r1 ≡ record r { ranks = e.ranks; expos = e.expos } → r2 ≡ record r1 { hops = []; close = [] } → r3 ≡ record r2 { hops = hc; close = kc } → r4 ≡ record r3 { epoch = k }
-    → r4 ≡ record r { epoch = k; ranks = e.ranks; expos = e.expos; hops = hc; close = kc }
-made-result r r1 r2 r3 r4 hc kc k e a b c d =
-    d ∙ (ap (λ (x : ResultView). record x { epoch = k }) c ∙ (ap (λ (x : ResultView). record x { epoch = k; hops = hc; close = kc }) b ∙ ap (λ (x : ResultView). record x { epoch = k; hops = hc; close = kc }) a))
+    pub starts-within : (d : Distance) (starts : List User) → ((u : User) → has_user starts u ≡ is_started (rule_of d no_user) ds u) → (u : User) → has_user starts u ≡ true → has_user r2.users u ≡ true
+    starts-within d starts are u h =
+        let told = started-told (rule_of d no_user) ds u (sym (are u) ∙ h) in
+        ap (λ (us : List User). has_user us u) users-two ∙ (counted.users.all u ∙ ((vertices-law (seen m) v ds led).0 u ∙ or_right _ (are_told ds u) told))
 
-module _ (m : MinerView) (inv : IsMining m) (quiet : active_in m ≡ []) (v : PartView) (ds : List DeltaLists) (led : AreLed (seen m) v ds) (graph : HasGraph v) (small : IsSmall v) (said : (u : User) → v.said u < 2 ^ 64)
-    (p : Plan) (planned : IsPlanned m v ds p) (r : ResultView) (counts : CountsOn ds m.result r) (keeps : KeepsOthers m.result r) (users_are : r.users ≡ planned_users p.counts m.result)
-    (alone_hops : (i : ℕ) → (get_or m.result.hops i no_column).others ≡ [] → (get_or r.hops i no_column).others ≡ []) (alone_close : (i : ℕ) → (get_or m.result.close i no_column).others ≡ [] → (get_or r.close i no_column).others ≡ []) where
-  evaluated : AreVertices v p.evaluation.users
-  evaluated = let e = planned.evaluation graph.0 graph.1 in record { ascend = e.users_ascend; all = λ u. e.users u ∙ sym (whole-vertex graph.0 v graph.1 u) }
-
-  pub counted : IsCountOf v r
-  counted = counts (seen m) v led (fits v p.evaluation.users led.after evaluated (small p.evaluation.users evaluated) said) inv.counts
-
-  pub users-same : p.evaluation.users ≡ r.users
-  users-same = same-users v graph r counted p.evaluation planned.evaluation
-
-  pub tags-same : p.evaluation.tags ≡ r.tags
-  tags-same = same-tags v graph r counted p.evaluation planned.evaluation
-
-  few : length r.users ≤ 2 ^ 27
-  few = small r.users counted.users
-
-  pub starts-within : (d : Distance) (starts : List User) → ((u : User) → has_user starts u ≡ is_started (rule_of d no_user) ds u) → (u : User) → has_user starts u ≡ true → has_user r.users u ≡ true
-  starts-within d starts are u h =
-      let told = started-told (rule_of d no_user) ds u (sym (are u) ∙ h) in
-      counted.users.all u ∙ ((vertices-law (seen m) v ds led).0 u ∙ or_right _ (are_told ds u) told)
-
-  module _ (fresh : Option Fresh) (fresh_is : IsFreshFor m.landmarks m.result.users (planned_users p.counts m.result) fresh) (hm cm : List (List Bool)) where
-    pub marks-blank : (o : Option Fresh) → IsFreshFor m.landmarks m.result.users (planned_users p.counts m.result) o → MatchOption o ((hm ≡ m.hop_marks) × (cm ≡ m.close_marks)) (λ f. (hm ≡ f.hop_marks.items) × (cm ≡ f.close_marks.items))
-        → AreBlank (length m.landmarks) r.users hm × AreBlank (length m.landmarks) r.users cm
-    marks-blank None same kept =
-        let us : m.result.users ≡ r.users = sym same ∙ sym users_are in (
-          record {
-            count = ap length kept.0 ∙ inv.hops.are.marks_are;
-            long = λ k lt. ap (λ (ms : List (List Bool)). length (get_or ms k [])) kept.0 ∙ (marks-long distance.Hops m m.result.hops m.hop_marks inv.hops k (omega (arith, lt, inv.hops.are.marks_are)) ∙ ap length us);
-            quiet = λ k i. ap (λ (ms : List (List Bool)). get_or (get_or ms k []) i false) kept.0 ∙ hops-quiet m inv quiet k i;
-          },
-          record {
-            count = ap length kept.1 ∙ inv.close.are.marks_are;
-            long = λ k lt. ap (λ (ms : List (List Bool)). length (get_or ms k [])) kept.1 ∙ (marks-long distance.Close m m.result.close m.close_marks inv.close k (omega (arith, lt, inv.close.are.marks_are)) ∙ ap length us);
-            quiet = λ k i. ap (λ (ms : List (List Bool)). get_or (get_or ms k []) i false) kept.1 ∙ close-quiet m inv quiet k i;
-          },
+    -- marks of the next users, of whom nobody is marked
+    blank-of : (o : Option WalkersView) → IsFreshFor m.landmarks m.result.users (planned_users p.counts m.result) o → AreBlank (length m.landmarks) r2.users (unwrap_or o m.walkers).hop_marks × AreBlank (length m.landmarks) r2.users (unwrap_or o m.walkers).close_marks
+    blank-of None same =
+        let us : m.result.users ≡ r2.users = sym same ∙ (sym users_are ∙ sym users-two) in
+        let long = walks-long (seen m) m.landmarks m.result m.walkers inv.walks in (
+          record { count = inv.walks.hops.are.marks_are; long = λ k lt. long.hops k (omega (arith, lt, inv.walks.hops.are.marks_are)) ∙ ap length us; quiet = (still m inv quiet).0 },
+          record { count = inv.walks.close.are.marks_are; long = λ k lt. long.close k (omega (arith, lt, inv.walks.close.are.marks_are)) ∙ ap length us; quiet = (still m inv quiet).1 },
         )
-    marks-blank (Some f) blank made = (
-      blank-marks (length m.landmarks) r.users (planned_users p.counts m.result) hm (sym users_are) (made.0 ∙ blank.0),
-      blank-marks (length m.landmarks) r.users (planned_users p.counts m.result) cm (sym users_are) (made.1 ∙ blank.1),
+    blank-of (Some w) blank = (
+      blank-marks (length m.landmarks) r2.users (planned_users p.counts m.result) w.hop_marks (sym users_are ∙ sym users-two) (ap (λ (x : WalkersView). x.hop_marks) blank),
+      blank-marks (length m.landmarks) r2.users (planned_users p.counts m.result) w.close_marks (sym users_are ∙ sym users-two) (ap (λ (x : WalkersView). x.close_marks) blank),
     )
 
-  module _ (hm cm : List (List Bool)) (blank : AreBlank (length m.landmarks) r.users hm × AreBlank (length m.landmarks) r.users cm) (fit_hops : AreOf (length r.users) r.hops) (fit_close : AreOf (length r.users) r.close) (same_count : length r.close ≡ length r.hops) where
-    hops-count : length r.hops ≡ length m.landmarks
-    hops-count = keeps.landmarks ∙ inv.hops.are.columns_are
+    pub fresh : (w : WalkersView) → w ≡ unwrap_or p.fresh m.walkers → AreFresh m.landmarks r2 w
+    fresh w is = subst (AreFresh m.landmarks r2) (sym is) (record {
+      hop_marks = (blank-of p.fresh planned.fresh).0;
+      close_marks = (blank-of p.fresh planned.fresh).1;
+      columns = ap (λ (x : ResultView). length x.hops) rest ∙ (keeps.landmarks ∙ inv.walks.hops.are.columns_are);
+      alone_hops = λ i. ap (λ (x : ResultView). (get_or x.hops i no_column).others) rest ∙ alone_hops i (inv.walks.hops.are.alone i);
+      alone_close = λ i. ap (λ (x : ResultView). (get_or x.close i no_column).others) rest ∙ alone_close i (inv.walks.close.are.alone i);
+    })
 
-    pub hop-states : AreStates m.landmarks r.users r.hops hm
-    hop-states = blank-states m.landmarks r.users r.hops hm counted.users.ascend hops-count (λ i. alone_hops i (inv.hops.are.alone i)) fit_hops blank.0
+    module _ (w : WalkersView) (before : HaveStates m.landmarks r2 w) (r3 : ResultView) (x : WalkersView) (walks_rest : KeepsRest r2 r3) (after : HaveStates m.landmarks r3 x)
+        (enters : AreEntered p.hop_starts.items p.close_starts.items m.landmarks r2 w r3 x) (k : ℕ) (some : 0 < k) (stores : List PartState) (shown_v : v ≡ joined stores)
+        (s : ScoresView) (s_is : s ≡ scores.planned p.scores) (kept : AreKept r2.users s) (shown : AreShown s r2) where
+      users-three : r3.users ≡ r2.users
+      users-three = ap (λ (y : ResultView). y.users) walks_rest
 
-    pub close-states : AreStates m.landmarks r.users r.close cm
-    close-states = blank-states m.landmarks r.users r.close cm counted.users.ascend (same_count ∙ hops-count) (λ i. alone_close i (inv.close.are.alone i)) fit_close blank.1
-
-    module _ (hc kc : List ColumnView) (nh nc : List (List Bool)) (hop_after : AreStates m.landmarks r.users hc nh) (close_after : AreStates m.landmarks r.users kc nc)
-        (hop_entered : AreAllDone (λ l. IsEntered (rule_of distance.Hops l) p.hop_starts.items) m.landmarks r.users (lanes r.hops hm) (lanes hc nh))
-        (close_entered : AreAllDone (λ l. IsEntered (rule_of distance.Close l) p.close_starts.items) m.landmarks r.users (lanes r.close cm) (lanes kc nc))
-        (k : ℕ) (some : 0 < k) (s : List PartState) (shown : v ≡ joined s) where
       abbrev Result : ResultView
-      Result = record (record (taken v graph r counted p.evaluation planned.evaluation) { hops = hc; close = kc }) { epoch = k }
+      Result = record r3 { epoch = k }
 
       abbrev pub entered_miner : MinerView
-      entered_miner = miner_of m.landmarks Result (Some s) nh nc
+      entered_miner = record { landmarks = m.landmarks; result = Result; snap = Some stores; walkers = x; scores = s }
 
-      pub hop-begins : (i : ℕ) (l : User) → slice_get m.landmarks i ≡ Some l → Begins (rule_of distance.Hops l) v ds (lane_of distance.Hops m i) (lane_of distance.Hops entered_miner i)
-      hop-begins = lane-begins distance.Hops (seen m) v ds led m.landmarks m.result.users r.users m.result.hops r.hops hc m.hop_marks hm nh p.hop_starts.items inv.hops (hop-lanes-quiet m inv quiet) counted.users few hop-states keeps.hops planned.hop_starts hop_entered hop_after
+      result-of : Result ≡ record r1 { epoch = k; hops = r3.hops; close = r3.close; ranks = r2.ranks; expos = r2.expos }
+      result-of = ap (λ (y : ResultView). record y { epoch = k }) walks_rest ∙ ap (λ (y : ResultView). record y { epoch = k; hops = r3.hops; close = r3.close }) rest
 
-      pub close-begins : (i : ℕ) (l : User) → slice_get m.landmarks i ≡ Some l → Begins (rule_of distance.Close l) v ds (lane_of distance.Close m i) (lane_of distance.Close entered_miner i)
-      close-begins = lane-begins distance.Close (seen m) v ds led m.landmarks m.result.users r.users m.result.close r.close kc m.close_marks cm nc p.close_starts.items inv.close (close-lanes-quiet m inv quiet) counted.users few close-states keeps.close planned.close_starts close_entered close_after
+      now-counted : IsCountOf v Result
+      now-counted = subst (IsCountOf v) (sym result-of) (counts-free v r1 counted k r3.hops r3.close r2.ranks r2.expos)
 
-      hop-on : AreOn distance.Hops v m.landmarks r.users hc nh
-      hop-on = begun-on distance.Hops (seen m) v ds led m.landmarks m.result.users r.users m.result.hops r.hops hc m.hop_marks hm nh p.hop_starts.items inv.hops (hop-lanes-quiet m inv quiet) counted.users few hop-states keeps.hops planned.hop_starts hop_entered hop_after
+      few : length r3.users ≤ 2 ^ 27
+      few = small r3.users now-counted.users
 
-      close-on : AreOn distance.Close v m.landmarks r.users kc nc
-      close-on = begun-on distance.Close (seen m) v ds led m.landmarks m.result.users r.users m.result.close r.close kc m.close_marks cm nc p.close_starts.items inv.close (close-lanes-quiet m inv quiet) counted.users few close-states keeps.close planned.close_starts close_entered close_after
+      vertices-two : AreVertices v r2.users
+      vertices-two = subst (AreVertices v) (sym users-two) counted.users
 
-      on-v : IsCountOf v Result
-      on-v = let t = taken-counts v graph r counted p.evaluation planned.evaluation in record { users = t.users; tags_ascend = t.tags_ascend; tags = t.tags; ins = t.ins; outs = t.outs; said = t.said; tag_users = t.tag_users }
+      few-two : length r2.users ≤ 2 ^ 27
+      few-two = small r2.users vertices-two
+
+      hops-after : AreStates m.landmarks r2.users r3.hops x.hop_marks
+      hops-after = subst (λ (us : List User). AreStates m.landmarks us r3.hops x.hop_marks) users-three after.hops
+
+      close-after : AreStates m.landmarks r2.users r3.close x.close_marks
+      close-after = subst (λ (us : List User). AreStates m.landmarks us r3.close x.close_marks) users-three after.close
+
+      same-hops : (i : ℕ) (u : User) → hops_in r2 i u ≡ hops_in m.result i u
+      same-hops i u = ap (λ (y : ResultView). hops_in y i u) rest ∙ keeps.hops i u
+
+      same-close : (i : ℕ) (u : User) → close_in r2 i u ≡ close_in m.result i u
+      same-close i u = ap (λ (y : ResultView). close_in y i u) rest ∙ keeps.close i u
+
+      hop-begins : (i : ℕ) (l : User) → slice_get m.landmarks i ≡ Some l → Begins (rule_of distance.Hops l) v ds (lane_of distance.Hops m i) (lane_of distance.Hops entered_miner i)
+      hop-begins i l e = subst (λ (us : List User). Begins (rule_of distance.Hops l) v ds (lane_of distance.Hops m i) (state_at us r3.hops x.hop_marks i)) (sym users-three)
+          (lane-begins distance.Hops (seen m) v ds led m.landmarks m.result.users r2.users m.result.hops r2.hops r3.hops m.walkers.hop_marks w.hop_marks x.hop_marks p.hop_starts.items inv.walks.hops (hop-lanes-quiet m inv quiet) vertices-two few-two before.hops same-hops planned.hop_starts (enters distance.Hops) hops-after i l e)
+
+      close-begins : (i : ℕ) (l : User) → slice_get m.landmarks i ≡ Some l → Begins (rule_of distance.Close l) v ds (lane_of distance.Close m i) (lane_of distance.Close entered_miner i)
+      close-begins i l e = subst (λ (us : List User). Begins (rule_of distance.Close l) v ds (lane_of distance.Close m i) (state_at us r3.close x.close_marks i)) (sym users-three)
+          (lane-begins distance.Close (seen m) v ds led m.landmarks m.result.users r2.users m.result.close r2.close r3.close m.walkers.close_marks w.close_marks x.close_marks p.close_starts.items inv.walks.close (close-lanes-quiet m inv quiet) vertices-two few-two before.close same-close planned.close_starts (enters distance.Close) close-after i l e)
+
+      walk-on : WalkOn v m.landmarks Result x
+      walk-on = record {
+        hops = subst (λ (us : List User). AreOn distance.Hops v m.landmarks us r3.hops x.hop_marks) (sym users-three)
+            (begun-on distance.Hops (seen m) v ds led m.landmarks m.result.users r2.users m.result.hops r2.hops r3.hops m.walkers.hop_marks w.hop_marks x.hop_marks p.hop_starts.items inv.walks.hops (hop-lanes-quiet m inv quiet) vertices-two few-two before.hops same-hops planned.hop_starts (enters distance.Hops) hops-after);
+        close = subst (λ (us : List User). AreOn distance.Close v m.landmarks us r3.close x.close_marks) (sym users-three)
+            (begun-on distance.Close (seen m) v ds led m.landmarks m.result.users r2.users m.result.close r2.close r3.close m.walkers.close_marks w.close_marks x.close_marks p.close_starts.items inv.walks.close (close-lanes-quiet m inv quiet) vertices-two few-two before.close same-close planned.close_starts (enters distance.Close) close-after);
+      }
+
+      -- the users of the plan are those of now
+      planned-now : planned_users p.counts m.result ≡ r3.users
+      planned-now = sym users_are ∙ (sym users-two ∙ sym users-three)
+
+      scores-on : StandOn v r3.users s
+      scores-on =
+          subst (λ (us : List User). StandOn v us s) planned-now
+          (subst (StandOn v (planned_users p.counts m.result)) (sym s_is)
+          (begins (seen m) v ds m.result.users m.scores (planned_users p.counts m.result) p.scores led next inv.scores (scores-quiet m inv quiet) planned.begun))
 
       pub entered-mining : IsMining entered_miner
       entered-mining = record {
-        counts = subst (λ (w : PartView). IsCountOf w Result) shown on-v;
+        whole = subst (λ (y : PartView). Rattle.kin_changes.specs.Views.IsWholeView y) shown_v led.after;
+        counts = subst (λ (y : PartView). IsCountOf y Result) shown_v now-counted;
         small = few;
-        hops = subst (λ (w : PartView). AreOn distance.Hops w m.landmarks r.users hc nh) shown hop-on;
-        close = subst (λ (w : PartView). AreOn distance.Close w m.landmarks r.users kc nc) shown close-on;
-        ranks = λ g h. taken-ranks v graph r counted p.evaluation planned.evaluation g (subst (IsViewOf g) (sym shown) h);
-        expos = λ g h. taken-expos v graph r counted p.evaluation planned.evaluation g (subst (IsViewOf g) (sym shown) h);
-        first = (λ none. absurd (let e : Some s ≡ None = none in (cc)), λ zero_k. absurd (omega (arith, zero_k, some)));
+        walks = subst (λ (y : PartView). WalkOn y m.landmarks Result x) shown_v walk-on;
+        kept = subst (λ (us : List User). AreKept us s) (sym users-three) kept;
+        scores = subst (λ (y : PartView). StandOn y r3.users s) shown_v scores-on;
+        shown = shown-now;
+        first = (λ none. absurd (let e : Some stores ≡ None = none in (cc)), λ zero_k. absurd (omega (arith, zero_k, some)));
       }
-
-      pub begins-on : (now : MinerView) → m ≡ now → (r5 : ResultView) → r5 ≡ Result → BeginsOn v ds now (miner_of m.landmarks r5 (Some s) nh nc)
-      begins-on now is r5 r_is =
-          subst (λ (x : MinerView). BeginsOn v ds x (miner_of m.landmarks r5 (Some s) nh nc)) is
-          (subst (λ (x : ResultView). BeginsOn v ds m (miner_of m.landmarks x (Some s) nh nc)) (sym r_is) both)
         where
-          both : BeginsOn v ds m entered_miner
-          both distance.Hops = hop-begins
-          both distance.Close = close-begins
+          shown-three : AreShown s r3
+          shown-three = subst (AreShown s) (sym walks_rest) (record { ranks = shown.ranks; expos = shown.expos })
 
-      pub entered-stands : (r5 : ResultView) → r5 ≡ Result → (g : Graph) → IsViewOf g (joined s) → IsMinerOf g k (miner_of m.landmarks r5 (Some s) nh nc)
-      entered-stands r5 r_is g h = subst (λ (x : ResultView). IsMinerOf g k (miner_of m.landmarks x (Some s) nh nc)) (sym r_is) (record { epoch = refl; seen_is = h; mining = entered-mining })
+          shown-now : AreShown s Result
+          shown-now = record { ranks = shown-three.ranks; expos = shown-three.expos }
+
+      begun-ranks : IsBegun rank_rule ds m.result.users m.scores.ranks r3.users s.ranks
+      begun-ranks =
+          subst (λ (us : List User). IsBegun rank_rule ds m.result.users m.scores.ranks us s.ranks) planned-now
+          (subst (λ (y : ScoresView). IsBegun rank_rule ds m.result.users m.scores.ranks (planned_users p.counts m.result) y.ranks) (sym s_is) planned.begun.ranks)
+
+      begun-expos : IsBegun exposure_rule ds m.result.users m.scores.expos r3.users s.expos
+      begun-expos =
+          subst (λ (us : List User). IsBegun exposure_rule ds m.result.users m.scores.expos us s.expos) planned-now
+          (subst (λ (y : ScoresView). IsBegun exposure_rule ds m.result.users m.scores.expos (planned_users p.counts m.result) y.expos) (sym s_is) planned.begun.expos)
+
+      module _ (now : MinerView) (is : m ≡ now) (r4 : ResultView) (r4_is : r4 ≡ record r3 { epoch = k }) where
+        abbrev new : MinerView
+        new = record { landmarks = m.landmarks; result = r4; snap = Some stores; walkers = x; scores = s }
+
+        new-is : entered_miner ≡ new
+        new-is = ap (λ (y : ResultView). record entered_miner { result = y }) (sym r4_is)
+
+        pub new-mining : IsMining new
+        new-mining = subst IsMining new-is entered-mining
+
+        pub new-begins : BeginsOn v ds now new
+        new-begins = subst (λ (y : MinerView). BeginsOn v ds y new) is (subst (BeginsOn v ds m) new-is (record { walks = both; ranks = begun-ranks; expos = begun-expos }))
+          where
+            both : (d : Distance) (i : ℕ) (l : User) → slice_get m.landmarks i ≡ Some l → Begins (rule_of d l) v ds (lane_of d m i) (lane_of d entered_miner i)
+            both distance.Hops = hop-begins
+            both distance.Close = close-begins
+
+        pub new-stands : (g : Graph) → IsViewOf g (joined stores) → IsMinerOf g k new
+        new-stands g h = subst (IsMinerOf g k) new-is (record { epoch = refl; seen_is = h; mining = entered-mining })

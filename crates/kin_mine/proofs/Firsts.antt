@@ -3,7 +3,7 @@ use Rattle.std.proofs.Common.{◌≡◌, ◌<◌, ◌≤◌, ◌+◌, ◌∙◌,
 use Rattle.std.proofs.lemmas.Bool.{cases_lt}
 use Rattle.std.proofs.lemmas.Bool.Decides.{nat_tests}
 use Rattle.std.proofs.lemmas.List.{get_or_past}
-use Rattle.kin_mine.specs.Miners.{IsFirstBefore, IsFirstIn, IsFirstPlace, are_quiet, lesser_of}
+use Rattle.kin_mine.specs.Marks.{IsFirstBefore, IsFirstIn, IsFirstPlace, are_quiet, lesser_of}
 
 -- what one column tells of its first place
 abbrev pub IsFirstOf : List Bool → Option ℕ → Type 0

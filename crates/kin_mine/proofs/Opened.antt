@@ -1,28 +1,24 @@
 -- What a miner keeps before any epoch.
 use Rattle.std.proofs.Common.{◌≡◌, ◌<◌, ◌≤◌, ◌^◌, ◌∙◌, ℕ, zero, suc, Bool, true, false, cond, List, [], ◌∷◌, Option, Some, None, filter, map, length, get_or, replicate, arith, refl, sym, ap, subst}
-use Rattle.std.specs.List.{range_with_len}
 use Rattle.std.specs.List.Sorted.{IsStrictlySortedBy}
 use Rattle.std.specs.declared.cmp.Ordering.{Ordering}
 use Rattle.std.proofs.lemmas.List.{length-replicate}
-use Rattle.std.proofs.lemmas.List.Sorted.{IsPermutation-refl, length_permutation}
+use Rattle.std.proofs.lemmas.List.Sorted.{IsPermutation-refl}
 use Rattle.kin_ids.specs.declared.ids.User.{User}
-use Rattle.kin_ids.specs.Graph.{Graph, empty_graph, tag_users, vertices}
-use Rattle.kin_ids.specs.Users.{has_user}
+use Rattle.kin_ids.specs.Graph.{empty_graph}
 use Rattle.kin_ids.specs.Wholes.{IsViewOf}
-use Rattle.kin_graph.proofs.Wholes.{whole-vertex}
-use Rattle.kin_changes.specs.Views.{empty_view}
+use Rattle.kin_changes.specs.Views.{IsWholeView, empty_view}
 use Rattle.kin_counts.specs.Counts.{IsCountOf}
 use Rattle.kin_push.specs.Facts.{On}
 use Rattle.kin_push.specs.States.{IsPushState, PushState, state}
 use Rattle.kin_push.proofs.Begun.{empty-law}
-use Rattle.kin_rules.specs.Counts.{tag_count}
-use Rattle.kin_rules.specs.Exposure.{exposure, exposures}
-use Rattle.kin_rules.specs.Ranks.{rank}
-use Rattle.kin_rules.specs.Results.{ColumnView, first_result, no_column}
+use Rattle.kin_rules.specs.Results.{ColumnView, ResultView, first_result, no_column}
+use Rattle.kin_scores.specs.Scores.{AreKept, AreShown, ScoresView, StandOn}
 use Rattle.kin_mine.specs.declared.walk_rules.Distance.{Distance}
 use Rattle.kin_mine.specs.declared.walk_rules.Distance.TheVariants as distance
-use Rattle.kin_mine.specs.Miners.{AreOn, IsMinerOf, IsMining, MinerView, active_in, rule_of, state_at}
-use Rattle.kin_mine.specs.Plans.{blank_marks}
+use Rattle.kin_mine.specs.Marks.{AreOn, rule_of, state_at}
+use Rattle.kin_mine.specs.Miners.{IsMinerOf, IsMining, MinerView}
+use Rattle.kin_mine.specs.Walkers.{WalkersView, blank_marks, no_walkers}
 
 blank-column : (n i : ℕ) → get_or (replicate n no_column) i no_column ≡ no_column
 blank-column zero i = refl
@@ -37,6 +33,21 @@ blank-mark (suc n) (suc i) = blank-mark n i
 sorted-nil : {K : Type 0} (c : K → K → Ordering) → IsStrictlySortedBy c []
 unfolding IsStrictlySortedBy
 sorted-nil c = tt
+
+empty-whole : IsWholeView empty_view
+empty-whole = record {
+  out_once = λ u. tt;
+  in_once = λ u. tt;
+  mentions_once = λ u. tt;
+  mentioners_once = λ u. tt;
+  uses_once = λ u. tt;
+  tag_users_once = λ t. tt;
+  follows = λ u w. refl;
+  present = λ u w. refl;
+  mentioned = λ u w. refl;
+  tagged = λ u t. refl;
+  said = λ u none. refl;
+}
 
 module _ (landmarks : List User) where
   blank-state : (i : ℕ) → state_at [] (replicate (length landmarks) no_column) (blank_marks (length landmarks) 0) i ≡ state [] [] []
@@ -56,9 +67,6 @@ module _ (landmarks : List User) where
     on = λ i l e. subst (On (rule_of d l) empty_view) (sym (blank-state i)) (empty-law (rule_of d l));
   }
 
-  abbrev pub first_miner : MinerView
-  first_miner = record { landmarks = landmarks; result = first_result (length landmarks); snap = None; hop_marks = blank_marks (length landmarks) 0; close_marks = blank_marks (length landmarks) 0 }
-
   first-counts : IsCountOf empty_view (first_result (length landmarks))
   first-counts = record {
     users = record { ascend = sorted-nil _; all = λ u. refl };
@@ -70,30 +78,29 @@ module _ (landmarks : List User) where
     tag_users = λ t. refl;
   }
 
-  first-ranks : (g : Graph) → IsViewOf g empty_view → (u : User) → 0 ≡ cond (has_user (vertices g) u) (rank g u) 0
-  first-ranks g shown u = ap (λ (b : Bool). cond b (rank g u) 0) (whole-vertex g empty_view shown u)
+  module _ (s : ScoresView) (kept : AreKept [] s) (on : StandOn empty_view [] s) (shown : (r : ResultView) → r.ranks ≡ [] → r.tags ≡ [] → r.expos ≡ [] → AreShown s r) where
+    abbrev pub first_miner : MinerView
+    first_miner = record { landmarks = landmarks; result = first_result (length landmarks); snap = None; walkers = no_walkers (length landmarks) 0; scores = s }
 
-  first-expos : (g : Graph) → IsViewOf g empty_view → (t : List ℕ) → [] ≡ exposures g t
-  first-expos g shown t = ap (λ (n : ℕ). filter (λ c. Rattle.std.proofs.Common.nat_lt 0 c.users) (map (λ k. record { k = k; users = exposure g t k }) (range_with_len 0 n))) (sym (length_permutation [] (tag_users g t) (shown.tag_users t)))
+    pub first-mining : IsMining first_miner
+    first-mining = record {
+      whole = empty-whole;
+      counts = first-counts;
+      small = omega arith;
+      walks = record { hops = first-on distance.Hops; close = first-on distance.Close };
+      kept = kept;
+      scores = on;
+      shown = shown (first_result (length landmarks)) refl refl refl;
+      first = (λ e. refl, λ e. refl);
+    }
 
-  pub first-mining : IsMining first_miner
-  first-mining = record {
-    counts = first-counts;
-    small = omega arith;
-    hops = first-on distance.Hops;
-    close = first-on distance.Close;
-    ranks = first-ranks;
-    expos = first-expos;
-    first = (λ e. refl, λ e. refl);
-  }
+    pub first-stands : IsMinerOf empty_graph 0 first_miner
+    first-stands = record { epoch = refl; seen_is = empty-shown; mining = first-mining }
+      where
+        empty-shown : IsViewOf empty_graph empty_view
+        empty-shown = record { out = λ u. refl; inn = λ u. refl; mentions = λ u. IsPermutation-refl []; mentioners = λ u. IsPermutation-refl []; said = λ u. refl; uses = λ u. IsPermutation-refl []; tag_users = λ t. IsPermutation-refl [] }
 
-  pub first-stands : IsMinerOf empty_graph 0 first_miner
-  first-stands = record { epoch = refl; seen_is = empty-shown; mining = first-mining }
-    where
-      empty-shown : IsViewOf empty_graph empty_view
-      empty-shown = record { out = λ u. refl; inn = λ u. refl; mentions = λ u. IsPermutation-refl []; mentioners = λ u. IsPermutation-refl []; said = λ u. refl; uses = λ u. IsPermutation-refl []; tag_users = λ t. IsPermutation-refl [] }
-
--- a miner that is made of such parts is that one
-pub made-first : (landmarks ls : List User) (r : Rattle.kin_rules.specs.Results.ResultView) (hm cm : List (List Bool)) → ls ≡ landmarks → r ≡ first_result (length landmarks) → hm ≡ blank_marks (length landmarks) 0 → cm ≡ blank_marks (length landmarks) 0
-    → first_miner landmarks ≡ record { landmarks = ls; result = r; snap = None; hop_marks = hm; close_marks = cm }
-made-first landmarks ls r hm cm a b c d = rw (a, b, c, d) refl
+    -- a miner that is made of such parts is that one
+    pub made-first : (ls : List User) (r : ResultView) (w : WalkersView) → ls ≡ landmarks → r ≡ first_result (length landmarks) → w ≡ no_walkers (length landmarks) 0
+        → first_miner ≡ record { landmarks = ls; result = r; snap = None; walkers = w; scores = s }
+    made-first ls r w a b c = rw (a, b, c) refl

@@ -17,7 +17,7 @@ use Rattle.kin_rules.specs.Results.{ColumnView, no_column}
 use Rattle.kin_mine.proofs.Columns.{any-at, false-any, quiet-places}
 use Rattle.kin_mine.specs.declared.walk_rules.Distance.{Distance}
 use Rattle.kin_mine.specs.Lanes.{AreAllDone, AreDone, KeepsOn, Lanes, lane, lanes, marked_in, no_user, owed_in}
-use Rattle.kin_mine.specs.Miners.{AreOn, AreStates, are_quiet, is_marked, rule_of}
+use Rattle.kin_mine.specs.Marks.{AreOn, AreStates, are_quiet, is_marked, rule_of}
 
 abbrev pub Lane : Type 1
 Lane = User → PushState → PushState → Type 0

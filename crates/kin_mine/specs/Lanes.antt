@@ -10,7 +10,7 @@ use Rattle.kin_push.specs.Facts.{On, to_read}
 use Rattle.kin_push.specs.States.{PushState, IsPushState, IsQuiet, is_active, net_in, value_in}
 use Rattle.kin_push.specs.Turns.{IsRun, Moved, Rested}
 use Rattle.kin_mine.specs.declared.walk_rules.Distance.{Distance}
-use Rattle.kin_mine.specs.Miners.{rule_of, state_at}
+use Rattle.kin_mine.specs.Marks.{rule_of, state_at}
 
 -- By a turn of u the values move as a turn's do; where u was active it is at rest, and else nothing changes.
 pub record IsTurned (r : Rule) (v : PartView) (u : User) (old new : PushState) : Type 0 where

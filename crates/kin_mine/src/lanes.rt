@@ -1,5 +1,5 @@
-//! The columns of a rule of walks, one of each landmark, with the marks of those who are active: what calls of an engine do to
-//! each of them.
+//! The columns of a rule of walks, one of each landmark, with the marks of those who are active: what calls of an
+//! engine do to each of them.
 
 ghost use Rattle.std.specs.Prelude.{◌≡◌, ◌<◌, ◌≤◌, ◌+◌, ◌||◌, ℕ, true, false, IfOk, IfSome, None, length, replicate};
 ghost use Rattle.kin_ids.specs.declared.ids.User.{User};
@@ -9,7 +9,7 @@ ghost use Rattle.kin_push.specs.Facts.{On, to_read};
 ghost use Rattle.kin_push.specs.States.{IsPushState, IsQuiet, is_active, state};
 ghost use Rattle.kin_rules.specs.Columns.{column_of, columns_of};
 ghost use Rattle.kin_mine.specs.Lanes.{AreAllDone, IsSettled, IsTurned, lane, lanes, owed_in};
-ghost use Rattle.kin_mine.specs.Miners.{AreOn, AreStates, IsFirstPlace, are_quiet, is_marked, lesser_of, rule_of};
+ghost use Rattle.kin_mine.specs.Marks.{AreOn, AreStates, IsFirstPlace, are_quiet, is_marked, lesser_of, rule_of};
 
 use crate::walk_rules::{Distance, WalkRule};
 use kin_graph::{Steps, View};
@@ -32,17 +32,22 @@ fn turn_lane<V: View, L: Ledger>(
     steps: &mut Steps<L>,
 ) -> bool
     requires state { IsPushState (state users.now (column_of column.old).values marks.old) }
-    requires on { On (rule_of distance landmark) (V.seen view.now) (state users.now (column_of column.old).values marks.old) }
+    requires on { On (rule_of distance landmark) (V.seen view.now) (state users.now
+        (column_of column.old).values marks.old) }
     ensures state { IsPushState (state users.now (column_of column.new).values marks.new) }
-    ensures on { On (rule_of distance landmark) (V.seen view.now) (state users.now (column_of column.new).values marks.new) }
+    ensures on { On (rule_of distance landmark) (V.seen view.now) (state users.now
+        (column_of column.new).values marks.new) }
     ensures turned { IsTurned (rule_of distance landmark) (V.seen view.now) u
-        (state users.now (column_of column.old).values marks.old) (state users.now (column_of column.new).values marks.new) }
+        (state users.now (column_of column.old).values marks.old) (state users.now
+        (column_of column.new).values marks.new) }
     ensures others { (column_of column.new).others ≡ (column_of column.old).others }
     ensures active { result ≡ is_active (state users.now (column_of column.old).values marks.old) u }
     ensures idle { is_active (state users.now (column_of column.old).values marks.old) u ≡ false →
         (column_of column.new ≡ column_of column.old) × (marks.new ≡ marks.old) × (steps.new ≡ steps.old) }
-    ensures reads { steps.new + to_read (rule_of distance landmark) (V.seen view.now) (state users.now (column_of column.new).values marks.new)
-        ≤ steps.old + to_read (rule_of distance landmark) (V.seen view.now) (state users.now (column_of column.old).values marks.old) }
+    ensures reads { steps.new + to_read (rule_of distance landmark) (V.seen view.now) (state users.now
+        (column_of column.new).values marks.new)
+        ≤ steps.old + to_read (rule_of distance landmark) (V.seen view.now) (state users.now
+        (column_of column.old).values marks.old) }
 {
     let rule = WalkRule { distance, landmark };
     let values = column.values.as_mut_slice();
@@ -74,8 +79,10 @@ fn turn_slices<V: View, L: Ledger>(
     ensures active { result ≡ is_marked users.now marks.old u }
     ensures idle { is_marked users.now marks.old u ≡ false →
         (columns_of columns.new ≡ columns_of columns.old) × (marks.new ≡ marks.old) × (steps.new ≡ steps.old) }
-    ensures reads { steps.new + owed_in distance (V.seen view.now) landmarks.now users.now (lanes (columns_of columns.new) marks.new) (length landmarks.now)
-        ≤ steps.old + owed_in distance (V.seen view.now) landmarks.now users.now (lanes (columns_of columns.old) marks.old) (length landmarks.now) }
+    ensures reads { steps.new + owed_in distance (V.seen view.now) landmarks.now users.now (lanes
+        (columns_of columns.new) marks.new) (length landmarks.now)
+        ≤ steps.old + owed_in distance (V.seen view.now) landmarks.now users.now (lanes
+        (columns_of columns.old) marks.old) (length landmarks.now) }
 {
     let mut turned = false;
     for i in 0..landmarks.len() {
@@ -105,15 +112,20 @@ pub(crate) fn turn_lanes<V: View, L: Ledger>(
     u: User,
     steps: &mut Steps<L>,
 ) -> bool
-    requires on { AreOn distance (V.seen view.now) landmarks.now users.now (columns_of columns.old.items) marks.old.items }
-    ensures on { AreOn distance (V.seen view.now) landmarks.now users.now (columns_of columns.new.items) marks.new.items }
+    requires on { AreOn distance (V.seen view.now) landmarks.now users.now
+        (columns_of columns.old.items) marks.old.items }
+    ensures on { AreOn distance (V.seen view.now) landmarks.now users.now
+        (columns_of columns.new.items) marks.new.items }
     ensures each { AreAllDone (λ l. IsTurned (rule_of distance l) (V.seen view.now) u) landmarks.now users.now
         (lanes (columns_of columns.old.items) marks.old.items) (lanes (columns_of columns.new.items) marks.new.items) }
     ensures active { result ≡ is_marked users.now marks.old.items u }
     ensures idle { is_marked users.now marks.old.items u ≡ false →
-        (columns_of columns.new.items ≡ columns_of columns.old.items) × (marks.new.items ≡ marks.old.items) × (steps.new ≡ steps.old) }
-    ensures reads { steps.new + owed_in distance (V.seen view.now) landmarks.now users.now (lanes (columns_of columns.new.items) marks.new.items) (length landmarks.now)
-        ≤ steps.old + owed_in distance (V.seen view.now) landmarks.now users.now (lanes (columns_of columns.old.items) marks.old.items) (length landmarks.now) }
+        (columns_of columns.new.items ≡ columns_of columns.old.items) × (marks.new.items ≡ marks.old.items)
+        × (steps.new ≡ steps.old) }
+    ensures reads { steps.new + owed_in distance (V.seen view.now) landmarks.now users.now (lanes
+        (columns_of columns.new.items) marks.new.items) (length landmarks.now)
+        ≤ steps.old + owed_in distance (V.seen view.now) landmarks.now users.now (lanes
+        (columns_of columns.old.items) marks.old.items) (length landmarks.now) }
 {
     let columns = columns.as_mut_slice();
     let marks = marks.as_mut_slice();
@@ -132,16 +144,21 @@ fn settle_lane<V: View, L: Ledger>(
     steps: &mut Steps<L>,
 )
     requires state { IsPushState (state users.now (column_of column.old).values marks.old) }
-    requires on { On (rule_of distance landmark) (V.seen view.now) (state users.now (column_of column.old).values marks.old) }
+    requires on { On (rule_of distance landmark) (V.seen view.now) (state users.now
+        (column_of column.old).values marks.old) }
     ensures state { IsPushState (state users.now (column_of column.new).values marks.new) }
-    ensures on { On (rule_of distance landmark) (V.seen view.now) (state users.now (column_of column.new).values marks.new) }
+    ensures on { On (rule_of distance landmark) (V.seen view.now) (state users.now
+        (column_of column.new).values marks.new) }
     ensures settled { IsSettled (rule_of distance landmark) (V.seen view.now)
-        (state users.now (column_of column.old).values marks.old) (state users.now (column_of column.new).values marks.new) }
+        (state users.now (column_of column.old).values marks.old) (state users.now
+        (column_of column.new).values marks.new) }
     ensures others { (column_of column.new).others ≡ (column_of column.old).others }
     ensures idle { IsQuiet (state users.now (column_of column.old).values marks.old) →
         (column_of column.new ≡ column_of column.old) × (marks.new ≡ marks.old) × (steps.new ≡ steps.old) }
-    ensures reads { steps.new + to_read (rule_of distance landmark) (V.seen view.now) (state users.now (column_of column.new).values marks.new)
-        ≤ steps.old + to_read (rule_of distance landmark) (V.seen view.now) (state users.now (column_of column.old).values marks.old) }
+    ensures reads { steps.new + to_read (rule_of distance landmark) (V.seen view.now) (state users.now
+        (column_of column.new).values marks.new)
+        ≤ steps.old + to_read (rule_of distance landmark) (V.seen view.now) (state users.now
+        (column_of column.old).values marks.old) }
 {
     let rule = WalkRule { distance, landmark };
     let values = column.values.as_mut_slice();
@@ -166,8 +183,10 @@ fn settle_slices<V: View, L: Ledger>(
     ensures quiet { are_quiet marks.new }
     ensures idle { are_quiet marks.old →
         (columns_of columns.new ≡ columns_of columns.old) × (marks.new ≡ marks.old) × (steps.new ≡ steps.old) }
-    ensures reads { steps.new + owed_in distance (V.seen view.now) landmarks.now users.now (lanes (columns_of columns.new) marks.new) (length landmarks.now)
-        ≤ steps.old + owed_in distance (V.seen view.now) landmarks.now users.now (lanes (columns_of columns.old) marks.old) (length landmarks.now) }
+    ensures reads { steps.new + owed_in distance (V.seen view.now) landmarks.now users.now (lanes
+        (columns_of columns.new) marks.new) (length landmarks.now)
+        ≤ steps.old + owed_in distance (V.seen view.now) landmarks.now users.now (lanes
+        (columns_of columns.old) marks.old) (length landmarks.now) }
 {
     for i in 0..landmarks.len() {
         settle_lane(
@@ -194,15 +213,20 @@ pub(crate) fn settle_lanes<V: View, L: Ledger>(
     waves: &mut Waves,
     steps: &mut Steps<L>,
 )
-    requires on { AreOn distance (V.seen view.now) landmarks.now users.now (columns_of columns.old.items) marks.old.items }
-    ensures on { AreOn distance (V.seen view.now) landmarks.now users.now (columns_of columns.new.items) marks.new.items }
+    requires on { AreOn distance (V.seen view.now) landmarks.now users.now
+        (columns_of columns.old.items) marks.old.items }
+    ensures on { AreOn distance (V.seen view.now) landmarks.now users.now
+        (columns_of columns.new.items) marks.new.items }
     ensures each { AreAllDone (λ l. IsSettled (rule_of distance l) (V.seen view.now)) landmarks.now users.now
         (lanes (columns_of columns.old.items) marks.old.items) (lanes (columns_of columns.new.items) marks.new.items) }
     ensures quiet { are_quiet marks.new.items }
     ensures idle { are_quiet marks.old.items →
-        (columns_of columns.new.items ≡ columns_of columns.old.items) × (marks.new.items ≡ marks.old.items) × (steps.new ≡ steps.old) }
-    ensures reads { steps.new + owed_in distance (V.seen view.now) landmarks.now users.now (lanes (columns_of columns.new.items) marks.new.items) (length landmarks.now)
-        ≤ steps.old + owed_in distance (V.seen view.now) landmarks.now users.now (lanes (columns_of columns.old.items) marks.old.items) (length landmarks.now) }
+        (columns_of columns.new.items ≡ columns_of columns.old.items) × (marks.new.items ≡ marks.old.items)
+        × (steps.new ≡ steps.old) }
+    ensures reads { steps.new + owed_in distance (V.seen view.now) landmarks.now users.now (lanes
+        (columns_of columns.new.items) marks.new.items) (length landmarks.now)
+        ≤ steps.old + owed_in distance (V.seen view.now) landmarks.now users.now (lanes
+        (columns_of columns.old.items) marks.old.items) (length landmarks.now) }
 {
     let columns = columns.as_mut_slice();
     let marks = marks.as_mut_slice();
@@ -225,7 +249,8 @@ fn enter_lane(
     requires within { (u : User) → has_user starts.now u ≡ true → has_user users.now u ≡ true }
     ensures state { IsPushState (state users.now (column_of column.new).values marks.new) }
     ensures entered { IsEntered (rule_of distance landmark) starts.now
-        (state users.now (column_of column.old).values marks.old) (state users.now (column_of column.new).values marks.new) }
+        (state users.now (column_of column.old).values marks.old) (state users.now
+        (column_of column.new).values marks.new) }
     ensures others { (column_of column.new).others ≡ (column_of column.old).others }
 {
     let rule = WalkRule { distance, landmark };

@@ -7,6 +7,7 @@ pub mod miners;
 pub(crate) mod plans;
 pub mod refusals;
 pub(crate) mod walk_rules;
+pub(crate) mod walkers;
 
 pub use kin_rules::{EpochResult, Turn};
 pub use miners::Miner;

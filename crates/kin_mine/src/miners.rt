@@ -1,6 +1,7 @@
 //! The miner.
 
-ghost use Rattle.std.specs.Prelude.{◌≡◌, ◌≢◌, ◌≤◌, ◌<◌, ◌+◌, ◌↔◌, ℕ, false, true, [], IfOk, IfSome, if◌then◌else◌, IsErrOf, MatchOption, Some, ◌^◌, OnErr, OnOk, None, length};
+ghost use Rattle.std.specs.Prelude.{◌≡◌, ◌≢◌, ◌≤◌, ◌<◌, ◌+◌, ◌^◌, ◌↔◌, ℕ, true, false, [], None, if◌then◌else◌};
+ghost use Rattle.std.specs.Prelude.{IsErrOf, IfOk, IfSome, OnErr, OnOk, length, unwrap_or};
 ghost use Rattle.kin_ids.specs.declared.ids.Epoch.{Epoch};
 ghost use Rattle.kin_ids.specs.declared.ids.User.{User};
 ghost use Rattle.kin_ids.specs.Graph.{Graph, empty_graph};
@@ -9,40 +10,43 @@ ghost use Rattle.kin_ids.specs.Wholes.{IsViewOf};
 ghost use Rattle.kin_graph.specs.Views.{IsSmall};
 ghost use Rattle.kin_blocks.specs.Snaps.{joined};
 ghost use Rattle.kin_changes.specs.Views.{AreLed};
+ghost use Rattle.kin_counts.specs.Plans.{IsPlanOf, planned_tags, planned_users};
 ghost use Rattle.kin_rules.specs.declared.turns.Turn.TheVariants as turn;
-ghost use Rattle.kin_rules.specs.Results.{IsResult};
+ghost use Rattle.kin_rules.specs.Results.{IsResult, ResultView};
+ghost use Rattle.kin_scores.specs.Plans.{HasBegun};
+ghost use Rattle.kin_scores.specs.Plans as scores;
+ghost use Rattle.kin_scores.specs.Turns.{most_reads, scores_reads};
 ghost use Rattle.kin_mine.specs.Epochs.{BeginsOn, Settles, TurnsAt, owed};
-ghost use Rattle.kin_mine.specs.Plans.{IsFreshFor, IsPlanned, blank_marks};
-ghost use Rattle.kin_counts.specs.Plans.{planned_users};
-ghost use Rattle.kin_mine.specs.Miners.{HasGraph, IsLeastUser, IsMinerOf, active_in, begun, is_active, seen, turn_of};
+ghost use Rattle.kin_mine.specs.Miners.{IsLeastUser, IsMinerOf, active_in, begun, seen, turn_of};
+ghost use Rattle.kin_mine.specs.Plans.{IsFreshFor, IsPlanned, LeadOn};
 
-use crate::lanes::{either, enter_lanes, first_of, lesser, no_marks, settle_lanes, turn_lanes};
-use crate::plans::{Fresh, Plan};
+use crate::lanes::either;
+use crate::plans::Plan;
 use crate::refusals::{BeginRefused, ResultRefused, TurnRefused};
-use crate::walk_rules::Distance;
+use crate::walkers::Walkers;
 use kin_blocks::{Delta, Snap};
 use kin_counts::CountPlan;
 use kin_graph::Steps;
 use kin_hops::{Close, Hops};
-use kin_ids::{Epoch, Memory, User};
-use kin_push::{ActiveSet, Waves, starts};
-use kin_rules::{EpochResult, Turn, scratch};
+use kin_ids::{Epoch, Memory, Tag, User};
+use kin_push::starts;
+use kin_rules::{EpochResult, Turn};
+use kin_scores::scores::lesser;
+use kin_scores::{ScorePlan, Scores};
 use std::alloc::Global;
 use std::marker::Model;
 use std::sync::ledger::Ledger;
 
-/// All values of the epoch begun last, from each of the landmarks. Counts and walks are kept from epoch to epoch, the latter by turns of
-/// users; ranks and exposures are evaluated when an epoch is begun.
+/// All values of the epoch begun last, from each of the landmarks. They are kept from epoch to epoch: counts by what an
+/// epoch changed, and walks, ranks and exposures by turns of users.
 #[derive(Drop)]
 pub struct Miner {
     alloc: Global,
     landmarks: Vec<User>,
     result: EpochResult,
     snap: Option<Snap>,
-    hop_marks: Vec<ActiveSet>,
-    close_marks: Vec<ActiveSet>,
-    // Room for turns.
-    waves: Waves,
+    walkers: Walkers,
+    scores: Scores,
 }
 
 impl Model for Miner {
@@ -50,9 +54,21 @@ impl Model for Miner {
 
     ghost Value = { MinerView };
 
-    ghost view = { λ m. record { landmarks = m.landmarks.items; result = m.result; snap = m.snap; hop_marks = m.hop_marks.items; close_marks = m.close_marks.items } };
+    ghost view = { λ m. record {
+      landmarks = m.landmarks.items;
+      result = m.result;
+      snap = m.snap;
+      walkers = m.walkers;
+      scores = m.scores;
+    } };
 
-    ghost invariant = { λ m. IsMining (record { landmarks = m.landmarks.items; result = m.result; snap = m.snap; hop_marks = m.hop_marks.items; close_marks = m.close_marks.items }) };
+    ghost invariant = { λ m. IsMining (record {
+      landmarks = m.landmarks.items;
+      result = m.result;
+      snap = m.snap;
+      walkers = m.walkers;
+      scores = m.scores;
+    }) };
 }
 
 // What a turn of a user answers that was active or wasn't.
@@ -62,22 +78,43 @@ fn turned(was_active: bool) -> Turn
     if was_active { Turn::Turned } else { Turn::Idle }
 }
 
-// The marks and the room are fresh ones, where there are such.
-fn replace(
-    hop_marks: &mut Vec<ActiveSet>,
-    close_marks: &mut Vec<ActiveSet>,
-    waves: &mut Waves,
-    fresh: Option<Fresh>,
-)
-    ensures { MatchOption fresh ((hop_marks.new.items ≡ hop_marks.old.items) × (close_marks.new.items ≡ close_marks.old.items))
-        (λ f. (hop_marks.new.items ≡ f.hop_marks.items) × (close_marks.new.items ≡ f.close_marks.items)) }
+// Whether it is the answer of a user that was active.
+fn is_turned(answer: Turn) -> bool
+    ensures { answer ≡ (if result then turn.Turned else turn.Idle) }
 {
-    let Some(fresh) = fresh else {
-        return;
-    };
-    *hop_marks = fresh.hop_marks;
-    *close_marks = fresh.close_marks;
-    *waves = fresh.waves;
+    match answer {
+        Turn::Turned => true,
+        Turn::Idle => false,
+    }
+}
+
+// The marks and the room are fresh ones, where there are such.
+fn renew(walkers: &mut Walkers, fresh: Option<Walkers>)
+    ensures { walkers.new ≡ unwrap_or fresh walkers.old }
+{
+    if let Some(fresh) = fresh {
+        *walkers = fresh;
+    }
+}
+
+// The users of the next epoch.
+fn next_users<'a>(counts: &'a CountPlan, users: &'a [User]) -> &'a [User]
+    ensures { (r : ResultView) → r.users ≡ users.now → result.now ≡ planned_users counts.now r }
+{
+    match counts.users() {
+        Some(more) => more,
+        None => users,
+    }
+}
+
+// The tags of the next epoch.
+fn next_tags<'a>(counts: &'a CountPlan, tags: &'a [Tag]) -> &'a [Tag]
+    ensures { (r : ResultView) → r.tags ≡ tags.now → result.now ≡ planned_tags counts.now r }
+{
+    match counts.tags() {
+        Some(more) => more,
+        None => tags,
+    }
 }
 
 impl Miner {
@@ -93,9 +130,8 @@ impl Miner {
             landmarks: Vec::from_slice(alloc, landmarks)?,
             result: EpochResult::new(alloc, landmarks.len())?,
             snap: None,
-            hop_marks: no_marks(alloc, landmarks.len(), 0)?,
-            close_marks: no_marks(alloc, landmarks.len(), 0)?,
-            waves: Waves::with_room(alloc, 0)?,
+            walkers: Walkers::still(alloc, landmarks.len(), 0)?,
+            scores: Scores::nobody(alloc)?,
         })
     }
 
@@ -106,26 +142,25 @@ impl Miner {
         self.landmarks.as_slice()
     }
 
-    /// The least active user. None where nobody is active. It takes no memory.
+    /// The least active user. None where nobody is active. It takes no memory, and costs O(n) in the users.
     pub fn least_active(&self) -> Option<User>
         ensures none { result ≡ None → active_in self.now ≡ [] }
         ensures some { IfSome result (IsLeastUser (active_in self.now)) }
     {
-        let hops = first_of(self.hop_marks.as_slice());
-        let close = first_of(self.close_marks.as_slice());
-        match lesser(hops, close) {
-            Some(place) => Some(self.result.users()[place]),
-            None => None,
-        }
+        let users = self.result.users();
+        lesser(
+            self.walkers.least_active(users),
+            self.scores.least_active(users),
+        )
     }
 
-    /// Begins the next epoch on its snapshot, which is let go where the call is refused, with what the epoch changed in each partition. All
-    /// memory is taken before anything changes. Counts and walks cost what changed, and O(n) in the users for each of their columns where there
-    /// are new ones; ranks and exposures cost an evaluation.
+    /// Begins the next epoch on its snapshot, which is let go where the call is refused, with what the epoch changed in
+    /// each partition. All memory is taken before anything changes. Counts and walks cost what changed, and O(n) in the
+    /// users for each of their columns where there are new ones; ranks and exposures cost O(n) in the users and in the
+    /// entries.
     pub fn begin(&mut self, epoch: Epoch, snap: Snap, deltas: &[Delta]) -> Result<(), BeginRefused>
         requires small { IsSmall (joined snap) }
         requires room { begun self.old < u32.MAX }
-        requires graph { HasGraph (joined snap) }
         requires said { (u : User) → (joined snap).said u < 2 ^ 64 }
         requires led { AreLed (seen self.old) (joined snap) deltas.now }
 
@@ -149,47 +184,52 @@ impl Miner {
         if epoch != next {
             return Err(BeginRefused::NotNext(next));
         }
-        let plan = self.plan(epoch, &snap, deltas)?;
+        let plan = self.plan(deltas)?;
         self.enter(epoch, snap, plan, deltas);
         Ok(())
     }
 
-    // Marks and room for so many users.
-    fn fresh(&self, users: usize) -> Result<Fresh, Memory>
-        ensures { IfOk result (λ f. (f.hop_marks.items ≡ blank_marks (length self.now.landmarks) users)
-            × (f.close_marks.items ≡ blank_marks (length self.now.landmarks) users)) }
-    {
-        Ok(Fresh {
-            hop_marks: no_marks(self.alloc, self.landmarks.len(), users)?,
-            close_marks: no_marks(self.alloc, self.landmarks.len(), users)?,
-            waves: Waves::with_room(self.alloc, users)?,
-        })
-    }
-
     // Marks and room for the next users, where they aren't those of now.
-    fn fresh_for(&self, counts: &CountPlan) -> Result<Option<Fresh>, Memory>
-        ensures { IfOk result (IsFreshFor self.now.landmarks self.now.result.users (planned_users counts.now self.now.result)) }
+    fn fresh_for(&self, counts: &CountPlan) -> Result<Option<Walkers>, Memory>
+        ensures { IfOk result (IsFreshFor self.now.landmarks self.now.result.users
+            (planned_users counts.now self.now.result)) }
     {
         match counts.users() {
-            Some(users) => Ok(Some(self.fresh(users.len())?)),
+            Some(users) => Ok(Some(Walkers::still(self.alloc, self.landmarks.len(), users.len())?)),
             None => Ok(None),
         }
     }
 
+    // The part of ranks and exposures.
+    fn plan_scores(&self, counts: &CountPlan, deltas: &[Delta]) -> Result<ScorePlan, Memory>
+        requires counts { IsPlanOf self.now.result deltas.now counts.now }
+        requires lead { LeadOn (seen self.now) deltas.now }
+        ensures plan { IfOk result (scores.IsPlanOf (planned_users counts.now self.now.result)
+            (planned_tags counts.now self.now.result)) }
+        ensures begun { IfOk result (HasBegun deltas.now self.now.result.users self.now.scores
+            (planned_users counts.now self.now.result)) }
+    {
+        let users = self.result.users();
+        let more = next_users(counts, users);
+        let tags = next_tags(counts, self.result.tags());
+        self.scores.plan(users, more, tags, deltas)
+    }
+
     // All memory that the next epoch takes.
-    fn plan(&self, epoch: Epoch, snap: &Snap, deltas: &[Delta]) -> Result<Plan, Memory>
-        requires { IsSmall (joined snap.now) }
-        ensures { IfOk result (IsPlanned self.now (joined snap.now) deltas.now) }
+    fn plan(&self, deltas: &[Delta]) -> Result<Plan, Memory>
+        requires { LeadOn (seen self.now) deltas.now }
+        ensures { IfOk result (IsPlanned self.now deltas.now) }
     {
         let counts = kin_counts::plan(self.alloc, &self.result, deltas)?;
         let fresh = self.fresh_for(&counts)?;
+        let scores = self.plan_scores(&counts, deltas)?;
         let landmark = User(0);
         Ok(Plan {
             counts,
             fresh,
             hop_starts: starts(self.alloc, &Hops { landmark }, deltas)?,
             close_starts: starts(self.alloc, &Close { landmark }, deltas)?,
-            evaluation: scratch(self.alloc, snap, epoch, &[])?,
+            scores,
         })
     }
 
@@ -197,10 +237,9 @@ impl Miner {
     fn enter(&mut self, epoch: Epoch, snap: Snap, plan: Plan, deltas: &[Delta])
         requires quiet { active_in self.old ≡ [] }
         requires small { IsSmall (joined snap) }
-        requires graph { HasGraph (joined snap) }
         requires said { (u : User) → (joined snap).said u < 2 ^ 64 }
         requires led { AreLed (seen self.old) (joined snap) deltas.now }
-        requires plan { IsPlanned self.old (joined snap) deltas.now plan }
+        requires plan { IsPlanned self.old deltas.now plan }
         requires some { 0 < epoch.0 }
         ensures epoch { begun self.new ≡ epoch.0 }
         ensures landmarks { self.new.landmarks ≡ self.old.landmarks }
@@ -212,46 +251,31 @@ impl Miner {
             fresh,
             hop_starts,
             close_starts,
-            evaluation,
+            scores,
         } = plan;
         kin_counts::enter(&mut self.result, counts, deltas);
-        self.result.take_over(evaluation);
-        replace(
-            &mut self.hop_marks,
-            &mut self.close_marks,
-            &mut self.waves,
-            fresh,
-        );
-        let mut walks = self.result.take_walks();
-        enter_lanes(
-            Distance::Hops,
+        self.scores.enter(&mut self.result, scores);
+        renew(&mut self.walkers, fresh);
+        self.walkers.enter(
             self.landmarks.as_slice(),
-            self.result.users(),
-            &mut walks.hops,
-            &mut self.hop_marks,
+            &mut self.result,
             hop_starts.as_slice(),
-        );
-        enter_lanes(
-            Distance::Close,
-            self.landmarks.as_slice(),
-            self.result.users(),
-            &mut walks.close,
-            &mut self.close_marks,
             close_starts.as_slice(),
         );
-        self.result.put_walks(walks);
         self.result.set_epoch(epoch);
         self.snap = Some(snap);
     }
 
-    /// A turn of a user: by each rule of walks for which it is active, it offers its values to the ends of the edges out of it. It takes no memory. It
-    /// costs O(log n) for each edge.
+    /// A turn of a user: by each rule of walks for which it is active, it offers its values to the ends of the edges
+    /// out of it; by rank and by exposure its layers are computed again. It costs O(log n) for each edge, and where
+    /// ranks or exposures take the turn O(n) in the users and in the entries. After Memory all is as before.
     pub fn turn<L: Ledger>(&mut self, u: User, steps: &mut Steps<L>) -> Result<Turn, TurnRefused>
         ensures not_begun { IsErrOf result TurnRefused.NotBegun ↔ (begun self.old ≡ 0) }
         ensures turn { IfOk result (λ turn. turn ≡ turn_of self.old u) }
         ensures turns { OnOk result (TurnsAt u self.old self.new) }
         ensures idle { has_user (active_in self.old) u ≡ false → (self.new ≡ self.old) × (steps.new ≡ steps.old) }
-        ensures reads { OnOk result (steps.new + owed self.new ≤ steps.old + owed self.old) }
+        ensures reads { OnOk result (steps.new + owed self.new
+            ≤ steps.old + owed self.old + most_reads (seen self.old) self.old.result.users self.old.scores u) }
         ensures err { OnErr result (self.new ≡ self.old) }
         ensures landmarks { self.new.landmarks ≡ self.old.landmarks }
         ensures stands { (g : Graph) (k : ℕ) → IsMinerOf g k self.old → IsMinerOf g k self.new }
@@ -259,38 +283,20 @@ impl Miner {
         let Some(snap) = &self.snap else {
             return Err(TurnRefused::NotBegun);
         };
-        let mut walks = self.result.take_walks();
-        let hops = turn_lanes(
-            Distance::Hops,
-            self.landmarks.as_slice(),
-            self.result.users(),
-            &mut walks.hops,
-            &mut self.hop_marks,
-            snap,
-            u,
-            steps,
-        );
-        let close = turn_lanes(
-            Distance::Close,
-            self.landmarks.as_slice(),
-            self.result.users(),
-            &mut walks.close,
-            &mut self.close_marks,
-            snap,
-            u,
-            steps,
-        );
-        self.result.put_walks(walks);
-        Ok(turned(either(hops, close)))
+        let scored = self.scores.turn(&mut self.result, snap, u, steps)?;
+        let walked = self.walkers.turn(self.landmarks.as_slice(), &mut self.result, snap, u, steps);
+        Ok(turned(either(walked, is_turned(scored))))
     }
 
-    /// Makes turns until nobody is active. It takes no memory.
+    /// Makes turns until nobody is active, layer by layer by rank and by exposure. Where somebody is active by these it
+    /// costs O(n) in the users for each layer, and a look at all entries. After Memory all is as before.
     pub fn settle<L: Ledger>(&mut self, steps: &mut Steps<L>) -> Result<(), TurnRefused>
         ensures not_begun { IsErrOf result TurnRefused.NotBegun ↔ (begun self.old ≡ 0) }
         ensures settles { OnOk result (Settles self.old self.new) }
         ensures quiet { OnOk result (active_in self.new ≡ []) }
         ensures idle { active_in self.old ≡ [] → (self.new ≡ self.old) × (steps.new ≡ steps.old) }
-        ensures reads { OnOk result (steps.new + owed self.new ≤ steps.old + owed self.old) }
+        ensures reads { OnOk result (steps.new + owed self.new
+            ≤ steps.old + owed self.old + scores_reads (seen self.old) self.old.result.users self.old.scores) }
         ensures err { OnErr result (self.new ≡ self.old) }
         ensures landmarks { self.new.landmarks ≡ self.old.landmarks }
         ensures stands { (g : Graph) (k : ℕ) → IsMinerOf g k self.old → IsMinerOf g k self.new }
@@ -298,28 +304,9 @@ impl Miner {
         let Some(snap) = &self.snap else {
             return Err(TurnRefused::NotBegun);
         };
-        let mut walks = self.result.take_walks();
-        settle_lanes(
-            Distance::Hops,
-            self.landmarks.as_slice(),
-            self.result.users(),
-            &mut walks.hops,
-            &mut self.hop_marks,
-            snap,
-            &mut self.waves,
-            steps,
-        );
-        settle_lanes(
-            Distance::Close,
-            self.landmarks.as_slice(),
-            self.result.users(),
-            &mut walks.close,
-            &mut self.close_marks,
-            snap,
-            &mut self.waves,
-            steps,
-        );
-        self.result.put_walks(walks);
+        self.scores.settle(&mut self.result, snap, steps)?;
+        self.walkers
+            .settle(self.landmarks.as_slice(), &mut self.result, snap, steps);
         Ok(())
     }
 
@@ -330,7 +317,8 @@ impl Miner {
             ↔ ((begun self.now ≢ 0) × IsLeastUser (active_in self.now) u) }
         ensures quiet { OnOk result (active_in self.now ≡ []) }
         ensures result { IfOk result (λ r. r.now ≡ self.now.result) }
-        ensures exact { OnOk result ((g : Graph) (k : ℕ) → IsMinerOf g k self.now → IsResult g self.now.landmarks self.now.result) }
+        ensures exact { OnOk result ((g : Graph) (k : ℕ) → IsMinerOf g k self.now
+            → IsResult g self.now.landmarks self.now.result) }
     {
         if self.snap.is_none() {
             return Err(ResultRefused::NotBegun);

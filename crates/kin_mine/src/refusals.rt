@@ -36,6 +36,17 @@ pub enum TurnRefused {
     Memory,
 }
 
+impl From<Memory> for TurnRefused {
+    ghost use Rattle.std.specs.Prelude.{◌≡◌};
+    ghost use Rattle.kin_mine.specs.declared.refusals.TurnRefused.TheVariants as refused;
+
+    ghost from_gives = { λ _ e. e ≡ refused.Memory };
+
+    fn from(_error: Memory) -> TurnRefused {
+        TurnRefused::Memory
+    }
+}
+
 /// Why there is no result.
 #[derive(Clone, Copy, Debug, PartialEq, Eq, Error)]
 pub enum ResultRefused {

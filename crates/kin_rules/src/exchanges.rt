@@ -145,14 +145,4 @@ impl EpochResult {
     {
         self.expos = lists;
     }
-
-    /// Takes the ranks and the exposures of another result of the same users and tags. It takes no memory.
-    pub fn take_over(&mut self, other: EpochResult)
-        requires users { other.users ≡ self.old.users }
-        requires tags { other.tags ≡ self.old.tags }
-        ensures { self.new ≡ record self.old { ranks = other.ranks; expos = other.expos } }
-    {
-        self.ranks = other.ranks;
-        self.expos = other.expos;
-    }
 }

@@ -19,7 +19,7 @@ use Rattle.kin_hub.proofs.Committing.{kept-deltas, do-not-fall, inside}
 use Rattle.kin_hub.proofs.Storing.{snapshot-sound}
 use Rattle.kin_history.specs.Vectors.{vector}
 use Rattle.kin_history.specs.Mining.{mined, is_open}
-use Rattle.kin_mine.specs.Miners.{HasGraph, seen}
+use Rattle.kin_mine.specs.Miners.{seen}
 use Rattle.kin_world.specs.Worlds.{WorldView}
 use Rattle.kin_world.specs.Mining.{held_back_in}
 use Rattle.kin_world.specs.Stands.{Stands, HasHistory, story_of, last_begun}
@@ -34,11 +34,7 @@ continues : (feeds : List (List Record)) (vectors : ℕ → ℕ → ℕ) (k : �
 continues feeds vectors k = subst (λ (n : ℕ). Continues (snapshot feeds vectors k) (snapshot feeds vectors n)) (sym (add-one k)) (continues-suc feeds vectors k)
 
 module _ (w : WorldView) (has : HasHistory w) (clear : held_back_in w ≡ None) where
-  -- the next snapshot is that of a graph
-  pub clear-graph : HasGraph (joined (snap_in w.hub (w.mined + 1)))
-  clear-graph = (snapshot has.0.feeds (vector has.0 has.1) (mined has.0 has.1 + 1), ready-whole has.0 w has.1 has.2 (clear-ready has.0 w has.1 has.2 clear))
-
-  -- in which nobody is mentioned too often
+  -- in the next snapshot nobody is mentioned too often
   pub clear-said : (u : User) → (joined (snap_in w.hub (w.mined + 1))).said u < 2 ^ 64
   clear-said u =
       let set = has.0 in

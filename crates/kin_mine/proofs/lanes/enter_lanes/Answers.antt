@@ -4,7 +4,7 @@ use Rattle.kin_rules.specs.declared.columns.Column.{Column}
 use Rattle.kin_rules.specs.Columns.{column_of, columns_of}
 use Rattle.kin_push.specs.Begins.{IsEntered}
 use Rattle.kin_mine.specs.Lanes.{AreAllDone, lanes}
-use Rattle.kin_mine.specs.Miners.{rule_of}
+use Rattle.kin_mine.specs.Marks.{rule_of}
 use Rattle.kin_mine.proofs.Writes.{both-written}
 use Rattle.kin_mine.proofs.lanes.enter_lanes.Goals as goal
 

@@ -4,7 +4,7 @@ use Rattle.kin_push.specs.Begins.{IsEntered}
 use Rattle.kin_push.specs.States.{IsPushState, PushState}
 use Rattle.kin_rules.specs.Columns.{columns_of}
 use Rattle.kin_mine.specs.Lanes.{lanes}
-use Rattle.kin_mine.specs.Miners.{rule_of}
+use Rattle.kin_mine.specs.Marks.{rule_of}
 use Rattle.kin_mine.proofs.Steps.{all-states, at-end, done-next}
 use Rattle.kin_mine.proofs.lanes.enter_slices.Goals as goal
 

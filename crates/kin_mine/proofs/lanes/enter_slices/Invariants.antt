@@ -3,7 +3,7 @@ use Rattle.kin_push.specs.Begins.{IsEntered}
 use Rattle.kin_push.specs.States.{IsPushState}
 use Rattle.kin_rules.specs.Columns.{columns_of}
 use Rattle.kin_mine.specs.Lanes.{AreDone, lanes}
-use Rattle.kin_mine.specs.Miners.{rule_of}
+use Rattle.kin_mine.specs.Marks.{rule_of}
 use Rattle.kin_mine.proofs.lanes.enter_slices.Given as goal
 
 -- the lanes before this one have begun the epoch

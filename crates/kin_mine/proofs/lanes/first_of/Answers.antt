@@ -1,6 +1,6 @@
 use Rattle.std.proofs.Common.{◌≡◌, ◌+◌, List, Bool, [], ◌∙◌, sym, subst}
 use Rattle.std.proofs.lemmas.List.{get_or_default}
-use Rattle.kin_mine.specs.Miners.{IsFirstIn}
+use Rattle.kin_mine.specs.Marks.{IsFirstIn}
 use Rattle.kin_mine.proofs.Firsts.{IsFirstOf, first-more, first-none, first-of, first-some}
 use Rattle.kin_mine.proofs.lanes.first_of.Goals as goal
 

@@ -1,4 +1,4 @@
-use Rattle.kin_mine.specs.Miners.{IsFirstIn}
+use Rattle.kin_mine.specs.Marks.{IsFirstIn}
 use Rattle.kin_mine.proofs.lanes.first_of.Given as goal
 
 -- the first place in the columns so far

@@ -2,7 +2,7 @@ use Rattle.std.proofs.Common.{◌≡◌, ◌+◌, ◌≤◌, ◌∙◌, ℕ, Boo
 use Rattle.kin_push.specs.Facts.{On, to_read}
 use Rattle.kin_push.specs.States.{state}
 use Rattle.kin_mine.specs.Lanes.{IsSettled}
-use Rattle.kin_mine.specs.Miners.{rule_of}
+use Rattle.kin_mine.specs.Marks.{rule_of}
 use Rattle.kin_mine.proofs.Writes.{written}
 use Rattle.kin_mine.proofs.lanes.settle_lane.Goals as goal
 

@@ -3,7 +3,7 @@ use Rattle.std.proofs.lemmas.List.{length-map}
 use Rattle.kin_rules.specs.declared.columns.Column.{Column}
 use Rattle.kin_rules.specs.Columns.{column_of, columns_of}
 use Rattle.kin_mine.specs.Lanes.{AreAllDone, IsSettled, lanes}
-use Rattle.kin_mine.specs.Miners.{are_quiet, rule_of}
+use Rattle.kin_mine.specs.Marks.{are_quiet, rule_of}
 use Rattle.kin_mine.proofs.Writes.{both-written, written}
 use Rattle.kin_mine.proofs.lanes.settle_lanes.Goals as goal
 

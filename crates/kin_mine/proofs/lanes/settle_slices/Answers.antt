@@ -4,7 +4,7 @@ use Rattle.kin_push.specs.States.{IsQuiet, state}
 use Rattle.kin_rules.specs.Columns.{column_of, columns_of}
 use Rattle.kin_rules.specs.Places.{place}
 use Rattle.kin_mine.specs.Lanes.{IsSettled, KeepsOn, lanes, no_user}
-use Rattle.kin_mine.specs.Miners.{rule_of}
+use Rattle.kin_mine.specs.Marks.{rule_of}
 use Rattle.kin_mine.proofs.Steps.{all-on, all-quiet, at-end, done-next, next-active, next-on, owed-next, same-columns, same-marks, weaker}
 use Rattle.kin_mine.proofs.lanes.settle_slices.Goals as goal
 

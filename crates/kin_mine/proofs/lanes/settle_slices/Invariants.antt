@@ -1,7 +1,7 @@
 use Rattle.std.proofs.Common.{◌≡◌, ◌≤◌, ◌+◌, false}
 use Rattle.kin_rules.specs.Columns.{columns_of}
 use Rattle.kin_mine.specs.Lanes.{AreDone, IsSettled, KeepsOn, lanes, owed_in}
-use Rattle.kin_mine.specs.Miners.{are_quiet, rule_of}
+use Rattle.kin_mine.specs.Marks.{are_quiet, rule_of}
 use Rattle.kin_mine.proofs.lanes.settle_slices.Given as goal
 
 -- the lanes before this one are settled

@@ -1,7 +1,7 @@
 use Rattle.std.proofs.Common.{◌≡◌, ◌+◌, ◌≤◌, ◌∙◌, ℕ, Bool, List, Option, sym, subst, refl}
 use Rattle.kin_push.specs.Facts.{On, to_read}
 use Rattle.kin_push.specs.States.{state}
-use Rattle.kin_mine.specs.Miners.{rule_of}
+use Rattle.kin_mine.specs.Marks.{rule_of}
 use Rattle.kin_mine.proofs.Writes.{written}
 use Rattle.kin_mine.proofs.lanes.turn_lane.Goals as goal
 

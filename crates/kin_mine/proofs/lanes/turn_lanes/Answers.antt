@@ -3,7 +3,7 @@ use Rattle.std.proofs.lemmas.List.{length-map}
 use Rattle.kin_rules.specs.declared.columns.Column.{Column}
 use Rattle.kin_rules.specs.Columns.{column_of, columns_of}
 use Rattle.kin_mine.specs.Lanes.{AreAllDone, IsTurned, lanes}
-use Rattle.kin_mine.specs.Miners.{rule_of}
+use Rattle.kin_mine.specs.Marks.{rule_of}
 use Rattle.kin_mine.proofs.Writes.{both-written}
 use Rattle.kin_mine.proofs.lanes.turn_lanes.Goals as goal
 

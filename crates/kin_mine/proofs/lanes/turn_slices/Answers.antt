@@ -4,7 +4,7 @@ use Rattle.kin_push.specs.States.{state}
 use Rattle.kin_rules.specs.Columns.{column_of, columns_of}
 use Rattle.kin_rules.specs.Places.{place}
 use Rattle.kin_mine.specs.Lanes.{IsTurned, KeepsOn, lanes, marked_in, no_user}
-use Rattle.kin_mine.specs.Miners.{rule_of}
+use Rattle.kin_mine.specs.Marks.{rule_of}
 use Rattle.kin_mine.proofs.Columns.{neither}
 use Rattle.kin_mine.proofs.Steps.{all-on, at-end, done-next, marked-all, marked-more, next-active, next-on, owed-next, same-columns, same-marks, weaker}
 use Rattle.kin_mine.proofs.lanes.turn_slices.Goals as goal

@@ -1,7 +1,7 @@
 use Rattle.std.proofs.Common.{◌≡◌, ◌≤◌, ◌+◌, false}
 use Rattle.kin_rules.specs.Columns.{columns_of}
 use Rattle.kin_mine.specs.Lanes.{AreDone, IsTurned, KeepsOn, lanes, marked_in, owed_in}
-use Rattle.kin_mine.specs.Miners.{rule_of}
+use Rattle.kin_mine.specs.Marks.{rule_of}
 use Rattle.kin_mine.proofs.lanes.turn_slices.Given as goal
 
 -- the lanes before this one are turned

@@ -1,28 +1,41 @@
-use Rattle.std.proofs.Common.{◌≡◌, ◌∙◌, List, Bool, ℕ, Option, ap, sym, subst}
-use Rattle.kin_ids.specs.Parts.{PartView}
-use Rattle.kin_rules.specs.Columns.{columns_of}
+use Rattle.std.proofs.Common.{◌≡◌, ◌∙◌, ◌≤◌, ◌+◌, ◌||◌, ℕ, Bool, false, List, Option, [], length, arith, ap, ap₂, refl, sym, subst}
+use Rattle.kin_ids.specs.declared.ids.User.{User}
+use Rattle.kin_ids.specs.Users.{has_user}
+use Rattle.kin_blocks.specs.Snaps.{joined}
 use Rattle.kin_rules.specs.Results.{ResultView}
-use Rattle.kin_mine.specs.declared.walk_rules.Distance.TheVariants as distance
-use Rattle.kin_mine.specs.Lanes.{IsSettled}
-use Rattle.kin_mine.specs.Miners.{rule_of}
-use Rattle.kin_mine.proofs.Calls.{after-mining, after-quiet, after-same, after-settles, after-stands, all-quiet, lent-each, lent-on, miner_of, put-back}
+use Rattle.kin_scores.specs.Turns.{most_reads, scores_reads}
+use Rattle.kin_scores.specs.Scores.{ScoresView}
+use Rattle.kin_mine.specs.Miners.{MinerView, active_in, seen}
+use Rattle.kin_mine.specs.Walkers.{WalkersView}
+use Rattle.kin_mine.proofs.Mining.{scores-quiet, still}
+use Rattle.kin_mine.proofs.Turning.{miner_of, new-mining, new-owed, new-quiet, new-settles, new-stands, on-first, same-last, seen-some}
 use Rattle.kin_mine.proofs.miners.Miner.settle.Goals as goal
 
-pub invariant_of-self : goal.invariant_of-self
-invariant_of-self g c = after-mining (miner_of c.self.inside.landmarks.items c.self.inside.result c.self.inside.snap c.self.inside.hop_marks.items c.self.inside.close_marks.items) c.self.invariant (columns_of c.settle_lanes.new.columns.items) (columns_of c.settle_lanes-2.new.columns.items) c.settle_lanes.new.marks.items c.settle_lanes-2.new.marks.items (lent-on (miner_of c.self.inside.landmarks.items c.self.inside.result c.self.inside.snap c.self.inside.hop_marks.items c.self.inside.close_marks.items) c.in-Some.snap c.in-Some.is c.as_slice.result.now c.users.result.now c.as_slice.ensures.value (c.users.ensures.users ∙ ap (λ (r : ResultView). r.users) c.take_walks-walks.ensures.rest) distance.Hops (columns_of c.settle_lanes.new.columns.items) c.settle_lanes.new.marks.items c.settle_lanes.ensures.on) (lent-on (miner_of c.self.inside.landmarks.items c.self.inside.result c.self.inside.snap c.self.inside.hop_marks.items c.self.inside.close_marks.items) c.in-Some.snap c.in-Some.is c.as_slice-2.result.now c.users-2.result.now c.as_slice-2.ensures.value (c.users-2.ensures.users ∙ ap (λ (r : ResultView). r.users) c.take_walks-walks.ensures.rest) distance.Close (columns_of c.settle_lanes-2.new.columns.items) c.settle_lanes-2.new.marks.items c.settle_lanes-2.ensures.on) c.put_walks.new.self (put-back c.self.inside.result c.take_walks-walks.new.self c.put_walks.new.self (columns_of c.settle_lanes.new.columns.items) (columns_of c.settle_lanes-2.new.columns.items) c.take_walks-walks.ensures.rest c.put_walks.ensures)
+pub invariant_of-self-2 : goal.invariant_of-self-2
+invariant_of-self-2 g c = new-mining (miner_of c.self.inside.landmarks.items c.self.inside.result c.self.inside.snap c.self.inside.walkers c.self.inside.scores) c.self.invariant (joined c.in-Some.snap) (seen-some (miner_of c.self.inside.landmarks.items c.self.inside.result c.self.inside.snap c.self.inside.walkers c.self.inside.scores) c.in-Some.snap c.in-Some.is) c.as_slice.result.now c.as_slice.ensures.value c.settle.new.columns c.settle-2.new.columns c.settle-2.new.self c.settle.new.self c.in_ok-settle.ensures.rest c.settle-2.ensures.rest c.settle-2.ensures.on c.in_ok-settle.ensures.kept c.in_ok-settle.ensures.on c.in_ok-settle.ensures.shown
 
 pub returns-clause-settles : goal.returns-clause-settles
-returns-clause-settles g c = after-settles (miner_of c.self.inside.landmarks.items c.self.inside.result c.self.inside.snap c.self.inside.hop_marks.items c.self.inside.close_marks.items) c.self.invariant (columns_of c.settle_lanes.new.columns.items) (columns_of c.settle_lanes-2.new.columns.items) c.settle_lanes.new.marks.items c.settle_lanes-2.new.marks.items (lent-on (miner_of c.self.inside.landmarks.items c.self.inside.result c.self.inside.snap c.self.inside.hop_marks.items c.self.inside.close_marks.items) c.in-Some.snap c.in-Some.is c.as_slice.result.now c.users.result.now c.as_slice.ensures.value (c.users.ensures.users ∙ ap (λ (r : ResultView). r.users) c.take_walks-walks.ensures.rest) distance.Hops (columns_of c.settle_lanes.new.columns.items) c.settle_lanes.new.marks.items c.settle_lanes.ensures.on) (lent-on (miner_of c.self.inside.landmarks.items c.self.inside.result c.self.inside.snap c.self.inside.hop_marks.items c.self.inside.close_marks.items) c.in-Some.snap c.in-Some.is c.as_slice-2.result.now c.users-2.result.now c.as_slice-2.ensures.value (c.users-2.ensures.users ∙ ap (λ (r : ResultView). r.users) c.take_walks-walks.ensures.rest) distance.Close (columns_of c.settle_lanes-2.new.columns.items) c.settle_lanes-2.new.marks.items c.settle_lanes-2.ensures.on) c.put_walks.new.self (put-back c.self.inside.result c.take_walks-walks.new.self c.put_walks.new.self (columns_of c.settle_lanes.new.columns.items) (columns_of c.settle_lanes-2.new.columns.items) c.take_walks-walks.ensures.rest c.put_walks.ensures) c.args.self.now c.self.view_is (lent-each (miner_of c.self.inside.landmarks.items c.self.inside.result c.self.inside.snap c.self.inside.hop_marks.items c.self.inside.close_marks.items) c.in-Some.snap c.in-Some.is c.as_slice.result.now c.users.result.now c.as_slice.ensures.value (c.users.ensures.users ∙ ap (λ (r : ResultView). r.users) c.take_walks-walks.ensures.rest) (λ (v : PartView) l. IsSettled (rule_of distance.Hops l) v) (columns_of c.take_walks-walks.result.hops.items) c.self.inside.result.hops c.self.inside.hop_marks.items (columns_of c.settle_lanes.new.columns.items) c.settle_lanes.new.marks.items c.take_walks-walks.ensures.hops c.settle_lanes.ensures.each) (lent-each (miner_of c.self.inside.landmarks.items c.self.inside.result c.self.inside.snap c.self.inside.hop_marks.items c.self.inside.close_marks.items) c.in-Some.snap c.in-Some.is c.as_slice-2.result.now c.users-2.result.now c.as_slice-2.ensures.value (c.users-2.ensures.users ∙ ap (λ (r : ResultView). r.users) c.take_walks-walks.ensures.rest) (λ (v : PartView) l. IsSettled (rule_of distance.Close l) v) (columns_of c.take_walks-walks.result.close.items) c.self.inside.result.close c.self.inside.close_marks.items (columns_of c.settle_lanes-2.new.columns.items) c.settle_lanes-2.new.marks.items c.take_walks-walks.ensures.close c.settle_lanes-2.ensures.each)
+returns-clause-settles g c = new-settles (miner_of c.self.inside.landmarks.items c.self.inside.result c.self.inside.snap c.self.inside.walkers c.self.inside.scores) c.self.invariant (joined c.in-Some.snap) (seen-some (miner_of c.self.inside.landmarks.items c.self.inside.result c.self.inside.snap c.self.inside.walkers c.self.inside.scores) c.in-Some.snap c.in-Some.is) c.as_slice.result.now c.as_slice.ensures.value c.settle.new.columns c.settle-2.new.columns c.settle-2.new.self c.settle.new.self c.in_ok-settle.ensures.rest c.settle-2.ensures.rest c.settle-2.ensures.on c.in_ok-settle.ensures.kept c.in_ok-settle.ensures.on c.in_ok-settle.ensures.shown c.args.self.now c.self.view_is c.settle-2.ensures.settles c.in_ok-settle.ensures.settles
 
 pub returns-clause-stands : goal.returns-clause-stands
-returns-clause-stands g c = after-stands (miner_of c.self.inside.landmarks.items c.self.inside.result c.self.inside.snap c.self.inside.hop_marks.items c.self.inside.close_marks.items) c.self.invariant (columns_of c.settle_lanes.new.columns.items) (columns_of c.settle_lanes-2.new.columns.items) c.settle_lanes.new.marks.items c.settle_lanes-2.new.marks.items (lent-on (miner_of c.self.inside.landmarks.items c.self.inside.result c.self.inside.snap c.self.inside.hop_marks.items c.self.inside.close_marks.items) c.in-Some.snap c.in-Some.is c.as_slice.result.now c.users.result.now c.as_slice.ensures.value (c.users.ensures.users ∙ ap (λ (r : ResultView). r.users) c.take_walks-walks.ensures.rest) distance.Hops (columns_of c.settle_lanes.new.columns.items) c.settle_lanes.new.marks.items c.settle_lanes.ensures.on) (lent-on (miner_of c.self.inside.landmarks.items c.self.inside.result c.self.inside.snap c.self.inside.hop_marks.items c.self.inside.close_marks.items) c.in-Some.snap c.in-Some.is c.as_slice-2.result.now c.users-2.result.now c.as_slice-2.ensures.value (c.users-2.ensures.users ∙ ap (λ (r : ResultView). r.users) c.take_walks-walks.ensures.rest) distance.Close (columns_of c.settle_lanes-2.new.columns.items) c.settle_lanes-2.new.marks.items c.settle_lanes-2.ensures.on) c.put_walks.new.self (put-back c.self.inside.result c.take_walks-walks.new.self c.put_walks.new.self (columns_of c.settle_lanes.new.columns.items) (columns_of c.settle_lanes-2.new.columns.items) c.take_walks-walks.ensures.rest c.put_walks.ensures) c.args.self.now c.self.view_is
+returns-clause-stands g c = new-stands (miner_of c.self.inside.landmarks.items c.self.inside.result c.self.inside.snap c.self.inside.walkers c.self.inside.scores) c.self.invariant (joined c.in-Some.snap) (seen-some (miner_of c.self.inside.landmarks.items c.self.inside.result c.self.inside.snap c.self.inside.walkers c.self.inside.scores) c.in-Some.snap c.in-Some.is) c.as_slice.result.now c.as_slice.ensures.value c.settle.new.columns c.settle-2.new.columns c.settle-2.new.self c.settle.new.self c.in_ok-settle.ensures.rest c.settle-2.ensures.rest c.settle-2.ensures.on c.in_ok-settle.ensures.kept c.in_ok-settle.ensures.on c.in_ok-settle.ensures.shown c.args.self.now c.self.view_is
 
 pub returns-clause-quiet : goal.returns-clause-quiet
-returns-clause-quiet g c = after-quiet (miner_of c.self.inside.landmarks.items c.self.inside.result c.self.inside.snap c.self.inside.hop_marks.items c.self.inside.close_marks.items) c.self.invariant (columns_of c.settle_lanes.new.columns.items) (columns_of c.settle_lanes-2.new.columns.items) c.settle_lanes.new.marks.items c.settle_lanes-2.new.marks.items (lent-on (miner_of c.self.inside.landmarks.items c.self.inside.result c.self.inside.snap c.self.inside.hop_marks.items c.self.inside.close_marks.items) c.in-Some.snap c.in-Some.is c.as_slice.result.now c.users.result.now c.as_slice.ensures.value (c.users.ensures.users ∙ ap (λ (r : ResultView). r.users) c.take_walks-walks.ensures.rest) distance.Hops (columns_of c.settle_lanes.new.columns.items) c.settle_lanes.new.marks.items c.settle_lanes.ensures.on) (lent-on (miner_of c.self.inside.landmarks.items c.self.inside.result c.self.inside.snap c.self.inside.hop_marks.items c.self.inside.close_marks.items) c.in-Some.snap c.in-Some.is c.as_slice-2.result.now c.users-2.result.now c.as_slice-2.ensures.value (c.users-2.ensures.users ∙ ap (λ (r : ResultView). r.users) c.take_walks-walks.ensures.rest) distance.Close (columns_of c.settle_lanes-2.new.columns.items) c.settle_lanes-2.new.marks.items c.settle_lanes-2.ensures.on) c.put_walks.new.self (put-back c.self.inside.result c.take_walks-walks.new.self c.put_walks.new.self (columns_of c.settle_lanes.new.columns.items) (columns_of c.settle_lanes-2.new.columns.items) c.take_walks-walks.ensures.rest c.put_walks.ensures) c.settle_lanes.ensures.quiet c.settle_lanes-2.ensures.quiet
+returns-clause-quiet g c = new-quiet (miner_of c.self.inside.landmarks.items c.self.inside.result c.self.inside.snap c.self.inside.walkers c.self.inside.scores) c.self.invariant (joined c.in-Some.snap) (seen-some (miner_of c.self.inside.landmarks.items c.self.inside.result c.self.inside.snap c.self.inside.walkers c.self.inside.scores) c.in-Some.snap c.in-Some.is) c.as_slice.result.now c.as_slice.ensures.value c.settle.new.columns c.settle-2.new.columns c.settle-2.new.self c.settle.new.self c.in_ok-settle.ensures.rest c.settle-2.ensures.rest c.settle-2.ensures.on c.in_ok-settle.ensures.kept c.in_ok-settle.ensures.on c.in_ok-settle.ensures.shown c.settle-2.ensures.still c.in_ok-settle.ensures.quiet
+
+pub returns-clause-reads : goal.returns-clause-reads
+returns-clause-reads g c = new-owed (miner_of c.self.inside.landmarks.items c.self.inside.result c.self.inside.snap c.self.inside.walkers c.self.inside.scores) c.self.invariant (joined c.in-Some.snap) (seen-some (miner_of c.self.inside.landmarks.items c.self.inside.result c.self.inside.snap c.self.inside.walkers c.self.inside.scores) c.in-Some.snap c.in-Some.is) c.as_slice.result.now c.as_slice.ensures.value c.settle.new.columns c.settle-2.new.columns c.settle-2.new.self c.settle.new.self c.in_ok-settle.ensures.rest c.settle-2.ensures.rest c.settle-2.ensures.on c.in_ok-settle.ensures.kept c.in_ok-settle.ensures.on c.in_ok-settle.ensures.shown c.args.self.now c.self.view_is (λ v m. scores_reads v m.result.users m.scores) c.args.steps.now c.settle.new.steps c.settle-2.new.steps (let e = c.in_ok-settle.ensures.reads in omega (arith, e)) c.settle-2.ensures.reads
+
+pub returns-in_err-settle-clause-idle : goal.returns-in_err-settle-clause-idle
+returns-in_err-settle-clause-idle g c none =
+    let x = c.in_err-settle.ensures.idle (scores-quiet (miner_of c.self.inside.landmarks.items c.self.inside.result c.self.inside.snap c.self.inside.walkers c.self.inside.scores) c.self.invariant (subst (λ (m : MinerView). active_in m ≡ []) (sym c.self.view_is) none)) in
+    (ap₂ (λ (r : ResultView) (s : ScoresView). miner_of c.self.inside.landmarks.items r c.self.inside.snap c.self.inside.walkers s) x.2 x.1 ∙ c.self.view_is, x.0)
 
 pub returns-clause-idle : goal.returns-clause-idle
 returns-clause-idle g c none =
-    let off = all-quiet (miner_of c.self.inside.landmarks.items c.self.inside.result c.self.inside.snap c.self.inside.hop_marks.items c.self.inside.close_marks.items) c.self.invariant c.args.self.now c.self.view_is none in
-    let h = c.settle_lanes.ensures.idle off.0 in
-    let k = c.settle_lanes-2.ensures.idle off.1 in
-    (after-same (miner_of c.self.inside.landmarks.items c.self.inside.result c.self.inside.snap c.self.inside.hop_marks.items c.self.inside.close_marks.items) c.self.invariant (columns_of c.settle_lanes.new.columns.items) (columns_of c.settle_lanes-2.new.columns.items) c.settle_lanes.new.marks.items c.settle_lanes-2.new.marks.items (lent-on (miner_of c.self.inside.landmarks.items c.self.inside.result c.self.inside.snap c.self.inside.hop_marks.items c.self.inside.close_marks.items) c.in-Some.snap c.in-Some.is c.as_slice.result.now c.users.result.now c.as_slice.ensures.value (c.users.ensures.users ∙ ap (λ (r : ResultView). r.users) c.take_walks-walks.ensures.rest) distance.Hops (columns_of c.settle_lanes.new.columns.items) c.settle_lanes.new.marks.items c.settle_lanes.ensures.on) (lent-on (miner_of c.self.inside.landmarks.items c.self.inside.result c.self.inside.snap c.self.inside.hop_marks.items c.self.inside.close_marks.items) c.in-Some.snap c.in-Some.is c.as_slice-2.result.now c.users-2.result.now c.as_slice-2.ensures.value (c.users-2.ensures.users ∙ ap (λ (r : ResultView). r.users) c.take_walks-walks.ensures.rest) distance.Close (columns_of c.settle_lanes-2.new.columns.items) c.settle_lanes-2.new.marks.items c.settle_lanes-2.ensures.on) c.put_walks.new.self (put-back c.self.inside.result c.take_walks-walks.new.self c.put_walks.new.self (columns_of c.settle_lanes.new.columns.items) (columns_of c.settle_lanes-2.new.columns.items) c.take_walks-walks.ensures.rest c.put_walks.ensures) c.args.self.now c.self.view_is (h.0 ∙ c.take_walks-walks.ensures.hops) (k.0 ∙ c.take_walks-walks.ensures.close) h.1 k.1, k.2 ∙ h.2)
+    let x = c.in_ok-settle.ensures.idle (scores-quiet (miner_of c.self.inside.landmarks.items c.self.inside.result c.self.inside.snap c.self.inside.walkers c.self.inside.scores) c.self.invariant (subst (λ (m : MinerView). active_in m ≡ []) (sym c.self.view_is) none)) in
+    let y = c.settle-2.ensures.idle (still (miner_of c.self.inside.landmarks.items c.self.inside.result c.self.inside.snap c.self.inside.walkers c.self.inside.scores) c.self.invariant (subst (λ (m : MinerView). active_in m ≡ []) (sym c.self.view_is) none)) in (
+      ap₂ (λ (r : ResultView) (s : ScoresView). miner_of c.self.inside.landmarks.items r c.self.inside.snap c.settle-2.new.self s) (y.0 ∙ x.2) x.1
+          ∙ (ap (λ (w : WalkersView). miner_of c.self.inside.landmarks.items c.self.inside.result c.self.inside.snap w c.self.inside.scores) y.1 ∙ c.self.view_is),
+      y.2 ∙ x.0,
+    )

@@ -1,28 +1,46 @@
-use Rattle.std.proofs.Common.{◌≡◌, ◌∙◌, List, Bool, ℕ, Option, ap, sym, subst}
-use Rattle.kin_ids.specs.Parts.{PartView}
-use Rattle.kin_rules.specs.Columns.{columns_of}
+use Rattle.std.proofs.Common.{◌≡◌, ◌∙◌, ◌≤◌, ◌+◌, ◌||◌, ℕ, Bool, false, List, Option, [], length, ap, ap₂, refl, sym, subst}
+use Rattle.kin_ids.specs.declared.ids.User.{User}
+use Rattle.kin_ids.specs.Users.{has_user}
+use Rattle.kin_blocks.specs.Snaps.{joined}
 use Rattle.kin_rules.specs.Results.{ResultView}
-use Rattle.kin_mine.specs.declared.walk_rules.Distance.TheVariants as distance
-use Rattle.kin_mine.specs.Lanes.{IsTurned}
-use Rattle.kin_mine.specs.Miners.{rule_of}
-use Rattle.kin_mine.proofs.Calls.{after-mining, after-same, after-stands, after-turns, lent-each, lent-on, miner_of, put-back, turn-is, unmarked}
+use Rattle.kin_scores.specs.Turns.{most_reads, scores_reads}
+use Rattle.kin_scores.specs.Scores.{ScoresView}
+use Rattle.kin_scores.specs.Scores as scores
+use Rattle.kin_mine.specs.Miners.{MinerView, active_in, seen, turn_of}
+use Rattle.kin_mine.specs.Walkers.{WalkersView, is_walking}
+use Rattle.kin_mine.proofs.Mining.{neither-active, same-answer, turn-is}
+use Rattle.kin_mine.proofs.Turning.{miner_of, new-mining, new-owed, new-stands, new-turns, on-first, same-last, seen-some}
 use Rattle.kin_mine.proofs.miners.Miner.turn.Goals as goal
 
-pub invariant_of-self : goal.invariant_of-self
-invariant_of-self g c = after-mining (miner_of c.self.inside.landmarks.items c.self.inside.result c.self.inside.snap c.self.inside.hop_marks.items c.self.inside.close_marks.items) c.self.invariant (columns_of c.turn_lanes-hops.new.columns.items) (columns_of c.turn_lanes-close.new.columns.items) c.turn_lanes-hops.new.marks.items c.turn_lanes-close.new.marks.items (lent-on (miner_of c.self.inside.landmarks.items c.self.inside.result c.self.inside.snap c.self.inside.hop_marks.items c.self.inside.close_marks.items) c.in-Some.snap c.in-Some.is c.as_slice.result.now c.users.result.now c.as_slice.ensures.value (c.users.ensures.users ∙ ap (λ (r : ResultView). r.users) c.take_walks-walks.ensures.rest) distance.Hops (columns_of c.turn_lanes-hops.new.columns.items) c.turn_lanes-hops.new.marks.items c.turn_lanes-hops.ensures.on) (lent-on (miner_of c.self.inside.landmarks.items c.self.inside.result c.self.inside.snap c.self.inside.hop_marks.items c.self.inside.close_marks.items) c.in-Some.snap c.in-Some.is c.as_slice-2.result.now c.users-2.result.now c.as_slice-2.ensures.value (c.users-2.ensures.users ∙ ap (λ (r : ResultView). r.users) c.take_walks-walks.ensures.rest) distance.Close (columns_of c.turn_lanes-close.new.columns.items) c.turn_lanes-close.new.marks.items c.turn_lanes-close.ensures.on) c.put_walks.new.self (put-back c.self.inside.result c.take_walks-walks.new.self c.put_walks.new.self (columns_of c.turn_lanes-hops.new.columns.items) (columns_of c.turn_lanes-close.new.columns.items) c.take_walks-walks.ensures.rest c.put_walks.ensures)
+pub invariant_of-self-2 : goal.invariant_of-self-2
+invariant_of-self-2 g c = new-mining (miner_of c.self.inside.landmarks.items c.self.inside.result c.self.inside.snap c.self.inside.walkers c.self.inside.scores) c.self.invariant (joined c.in-Some.snap) (seen-some (miner_of c.self.inside.landmarks.items c.self.inside.result c.self.inside.snap c.self.inside.walkers c.self.inside.scores) c.in-Some.snap c.in-Some.is) c.as_slice.result.now c.as_slice.ensures.value c.turn.new.columns c.turn-walked.new.columns c.turn-walked.new.self c.turn.new.self c.in_ok-scored.ensures.rest c.turn-walked.ensures.rest c.turn-walked.ensures.on c.in_ok-scored.ensures.kept c.in_ok-scored.ensures.on c.in_ok-scored.ensures.shown
 
 pub returns-clause-turns : goal.returns-clause-turns
-returns-clause-turns g c = after-turns (miner_of c.self.inside.landmarks.items c.self.inside.result c.self.inside.snap c.self.inside.hop_marks.items c.self.inside.close_marks.items) c.self.invariant (columns_of c.turn_lanes-hops.new.columns.items) (columns_of c.turn_lanes-close.new.columns.items) c.turn_lanes-hops.new.marks.items c.turn_lanes-close.new.marks.items (lent-on (miner_of c.self.inside.landmarks.items c.self.inside.result c.self.inside.snap c.self.inside.hop_marks.items c.self.inside.close_marks.items) c.in-Some.snap c.in-Some.is c.as_slice.result.now c.users.result.now c.as_slice.ensures.value (c.users.ensures.users ∙ ap (λ (r : ResultView). r.users) c.take_walks-walks.ensures.rest) distance.Hops (columns_of c.turn_lanes-hops.new.columns.items) c.turn_lanes-hops.new.marks.items c.turn_lanes-hops.ensures.on) (lent-on (miner_of c.self.inside.landmarks.items c.self.inside.result c.self.inside.snap c.self.inside.hop_marks.items c.self.inside.close_marks.items) c.in-Some.snap c.in-Some.is c.as_slice-2.result.now c.users-2.result.now c.as_slice-2.ensures.value (c.users-2.ensures.users ∙ ap (λ (r : ResultView). r.users) c.take_walks-walks.ensures.rest) distance.Close (columns_of c.turn_lanes-close.new.columns.items) c.turn_lanes-close.new.marks.items c.turn_lanes-close.ensures.on) c.put_walks.new.self (put-back c.self.inside.result c.take_walks-walks.new.self c.put_walks.new.self (columns_of c.turn_lanes-hops.new.columns.items) (columns_of c.turn_lanes-close.new.columns.items) c.take_walks-walks.ensures.rest c.put_walks.ensures) c.args.u c.args.self.now c.self.view_is (lent-each (miner_of c.self.inside.landmarks.items c.self.inside.result c.self.inside.snap c.self.inside.hop_marks.items c.self.inside.close_marks.items) c.in-Some.snap c.in-Some.is c.as_slice.result.now c.users.result.now c.as_slice.ensures.value (c.users.ensures.users ∙ ap (λ (r : ResultView). r.users) c.take_walks-walks.ensures.rest) (λ (v : PartView) l. IsTurned (rule_of distance.Hops l) v c.args.u) (columns_of c.take_walks-walks.result.hops.items) c.self.inside.result.hops c.self.inside.hop_marks.items (columns_of c.turn_lanes-hops.new.columns.items) c.turn_lanes-hops.new.marks.items c.take_walks-walks.ensures.hops c.turn_lanes-hops.ensures.each) (lent-each (miner_of c.self.inside.landmarks.items c.self.inside.result c.self.inside.snap c.self.inside.hop_marks.items c.self.inside.close_marks.items) c.in-Some.snap c.in-Some.is c.as_slice-2.result.now c.users-2.result.now c.as_slice-2.ensures.value (c.users-2.ensures.users ∙ ap (λ (r : ResultView). r.users) c.take_walks-walks.ensures.rest) (λ (v : PartView) l. IsTurned (rule_of distance.Close l) v c.args.u) (columns_of c.take_walks-walks.result.close.items) c.self.inside.result.close c.self.inside.close_marks.items (columns_of c.turn_lanes-close.new.columns.items) c.turn_lanes-close.new.marks.items c.take_walks-walks.ensures.close c.turn_lanes-close.ensures.each)
+returns-clause-turns g c = new-turns (miner_of c.self.inside.landmarks.items c.self.inside.result c.self.inside.snap c.self.inside.walkers c.self.inside.scores) c.self.invariant (joined c.in-Some.snap) (seen-some (miner_of c.self.inside.landmarks.items c.self.inside.result c.self.inside.snap c.self.inside.walkers c.self.inside.scores) c.in-Some.snap c.in-Some.is) c.as_slice.result.now c.as_slice.ensures.value c.turn.new.columns c.turn-walked.new.columns c.turn-walked.new.self c.turn.new.self c.in_ok-scored.ensures.rest c.turn-walked.ensures.rest c.turn-walked.ensures.on c.in_ok-scored.ensures.kept c.in_ok-scored.ensures.on c.in_ok-scored.ensures.shown c.args.u c.args.self.now c.self.view_is c.turn-walked.ensures.turns c.in_ok-scored.ensures.turns
 
 pub returns-clause-stands : goal.returns-clause-stands
-returns-clause-stands g c = after-stands (miner_of c.self.inside.landmarks.items c.self.inside.result c.self.inside.snap c.self.inside.hop_marks.items c.self.inside.close_marks.items) c.self.invariant (columns_of c.turn_lanes-hops.new.columns.items) (columns_of c.turn_lanes-close.new.columns.items) c.turn_lanes-hops.new.marks.items c.turn_lanes-close.new.marks.items (lent-on (miner_of c.self.inside.landmarks.items c.self.inside.result c.self.inside.snap c.self.inside.hop_marks.items c.self.inside.close_marks.items) c.in-Some.snap c.in-Some.is c.as_slice.result.now c.users.result.now c.as_slice.ensures.value (c.users.ensures.users ∙ ap (λ (r : ResultView). r.users) c.take_walks-walks.ensures.rest) distance.Hops (columns_of c.turn_lanes-hops.new.columns.items) c.turn_lanes-hops.new.marks.items c.turn_lanes-hops.ensures.on) (lent-on (miner_of c.self.inside.landmarks.items c.self.inside.result c.self.inside.snap c.self.inside.hop_marks.items c.self.inside.close_marks.items) c.in-Some.snap c.in-Some.is c.as_slice-2.result.now c.users-2.result.now c.as_slice-2.ensures.value (c.users-2.ensures.users ∙ ap (λ (r : ResultView). r.users) c.take_walks-walks.ensures.rest) distance.Close (columns_of c.turn_lanes-close.new.columns.items) c.turn_lanes-close.new.marks.items c.turn_lanes-close.ensures.on) c.put_walks.new.self (put-back c.self.inside.result c.take_walks-walks.new.self c.put_walks.new.self (columns_of c.turn_lanes-hops.new.columns.items) (columns_of c.turn_lanes-close.new.columns.items) c.take_walks-walks.ensures.rest c.put_walks.ensures) c.args.self.now c.self.view_is
+returns-clause-stands g c = new-stands (miner_of c.self.inside.landmarks.items c.self.inside.result c.self.inside.snap c.self.inside.walkers c.self.inside.scores) c.self.invariant (joined c.in-Some.snap) (seen-some (miner_of c.self.inside.landmarks.items c.self.inside.result c.self.inside.snap c.self.inside.walkers c.self.inside.scores) c.in-Some.snap c.in-Some.is) c.as_slice.result.now c.as_slice.ensures.value c.turn.new.columns c.turn-walked.new.columns c.turn-walked.new.self c.turn.new.self c.in_ok-scored.ensures.rest c.turn-walked.ensures.rest c.turn-walked.ensures.on c.in_ok-scored.ensures.kept c.in_ok-scored.ensures.on c.in_ok-scored.ensures.shown c.args.self.now c.self.view_is
+
+pub returns-clause-reads : goal.returns-clause-reads
+returns-clause-reads g c = new-owed (miner_of c.self.inside.landmarks.items c.self.inside.result c.self.inside.snap c.self.inside.walkers c.self.inside.scores) c.self.invariant (joined c.in-Some.snap) (seen-some (miner_of c.self.inside.landmarks.items c.self.inside.result c.self.inside.snap c.self.inside.walkers c.self.inside.scores) c.in-Some.snap c.in-Some.is) c.as_slice.result.now c.as_slice.ensures.value c.turn.new.columns c.turn-walked.new.columns c.turn-walked.new.self c.turn.new.self c.in_ok-scored.ensures.rest c.turn-walked.ensures.rest c.turn-walked.ensures.on c.in_ok-scored.ensures.kept c.in_ok-scored.ensures.on c.in_ok-scored.ensures.shown c.args.self.now c.self.view_is (λ v m. most_reads v m.result.users m.scores c.args.u) c.args.steps.now c.turn.new.steps c.turn-walked.new.steps c.in_ok-scored.ensures.reads c.turn-walked.ensures.reads
 
 pub returns-clause-turn : goal.returns-clause-turn
-returns-clause-turn g c = turn-is (miner_of c.self.inside.landmarks.items c.self.inside.result c.self.inside.snap c.self.inside.hop_marks.items c.self.inside.close_marks.items) c.self.invariant c.args.self.now c.self.view_is c.args.u c.users.result.now c.users-2.result.now (c.users.ensures.users ∙ ap (λ (r : ResultView). r.users) c.take_walks-walks.ensures.rest) (c.users-2.ensures.users ∙ ap (λ (r : ResultView). r.users) c.take_walks-walks.ensures.rest) c.turned.result c.either.result c.turn_lanes-hops.result c.turn_lanes-close.result c.turned.ensures c.either.ensures c.turn_lanes-hops.ensures.active c.turn_lanes-close.ensures.active
+returns-clause-turn g c = subst (λ (m : MinerView). c.turned.result ≡ turn_of m c.args.u) c.self.view_is
+    (turn-is (miner_of c.self.inside.landmarks.items c.self.inside.result c.self.inside.snap c.self.inside.walkers c.self.inside.scores) c.self.invariant c.args.u c.turned.result c.either.result c.turn-walked.result c.is_turned.result c.turned.ensures c.either.ensures
+    (c.turn-walked.ensures.active ∙ ap (λ (r : ResultView). is_walking r.users c.self.inside.walkers c.args.u) c.in_ok-scored.ensures.rest)
+    (same-answer c.is_turned.result (scores.is_active c.self.inside.result.users c.self.inside.scores c.args.u) (sym c.is_turned.ensures ∙ c.in_ok-scored.ensures.which)))
+
+pub returns-in_err-scored-clause-idle : goal.returns-in_err-scored-clause-idle
+returns-in_err-scored-clause-idle g c off =
+    let x = c.in_err-scored.ensures.idle (neither-active (miner_of c.self.inside.landmarks.items c.self.inside.result c.self.inside.snap c.self.inside.walkers c.self.inside.scores) c.self.invariant c.args.u (subst (λ (m : MinerView). has_user (active_in m) c.args.u ≡ false) (sym c.self.view_is) off)).1 in
+    (ap₂ (λ (r : ResultView) (s : ScoresView). miner_of c.self.inside.landmarks.items r c.self.inside.snap c.self.inside.walkers s) x.2 x.1 ∙ c.self.view_is, x.0)
 
 pub returns-clause-idle : goal.returns-clause-idle
-returns-clause-idle g c none =
-    let off = unmarked (miner_of c.self.inside.landmarks.items c.self.inside.result c.self.inside.snap c.self.inside.hop_marks.items c.self.inside.close_marks.items) c.self.invariant c.args.self.now c.self.view_is c.args.u c.users.result.now c.users-2.result.now (c.users.ensures.users ∙ ap (λ (r : ResultView). r.users) c.take_walks-walks.ensures.rest) (c.users-2.ensures.users ∙ ap (λ (r : ResultView). r.users) c.take_walks-walks.ensures.rest) none in
-    let h = c.turn_lanes-hops.ensures.idle off.0 in
-    let k = c.turn_lanes-close.ensures.idle off.1 in
-    (after-same (miner_of c.self.inside.landmarks.items c.self.inside.result c.self.inside.snap c.self.inside.hop_marks.items c.self.inside.close_marks.items) c.self.invariant (columns_of c.turn_lanes-hops.new.columns.items) (columns_of c.turn_lanes-close.new.columns.items) c.turn_lanes-hops.new.marks.items c.turn_lanes-close.new.marks.items (lent-on (miner_of c.self.inside.landmarks.items c.self.inside.result c.self.inside.snap c.self.inside.hop_marks.items c.self.inside.close_marks.items) c.in-Some.snap c.in-Some.is c.as_slice.result.now c.users.result.now c.as_slice.ensures.value (c.users.ensures.users ∙ ap (λ (r : ResultView). r.users) c.take_walks-walks.ensures.rest) distance.Hops (columns_of c.turn_lanes-hops.new.columns.items) c.turn_lanes-hops.new.marks.items c.turn_lanes-hops.ensures.on) (lent-on (miner_of c.self.inside.landmarks.items c.self.inside.result c.self.inside.snap c.self.inside.hop_marks.items c.self.inside.close_marks.items) c.in-Some.snap c.in-Some.is c.as_slice-2.result.now c.users-2.result.now c.as_slice-2.ensures.value (c.users-2.ensures.users ∙ ap (λ (r : ResultView). r.users) c.take_walks-walks.ensures.rest) distance.Close (columns_of c.turn_lanes-close.new.columns.items) c.turn_lanes-close.new.marks.items c.turn_lanes-close.ensures.on) c.put_walks.new.self (put-back c.self.inside.result c.take_walks-walks.new.self c.put_walks.new.self (columns_of c.turn_lanes-hops.new.columns.items) (columns_of c.turn_lanes-close.new.columns.items) c.take_walks-walks.ensures.rest c.put_walks.ensures) c.args.self.now c.self.view_is (h.0 ∙ c.take_walks-walks.ensures.hops) (k.0 ∙ c.take_walks-walks.ensures.close) h.1 k.1, k.2 ∙ h.2)
+returns-clause-idle g c off =
+    let n = neither-active (miner_of c.self.inside.landmarks.items c.self.inside.result c.self.inside.snap c.self.inside.walkers c.self.inside.scores) c.self.invariant c.args.u (subst (λ (m : MinerView). has_user (active_in m) c.args.u ≡ false) (sym c.self.view_is) off) in
+    let x = c.in_ok-scored.ensures.idle n.1 in
+    let y = c.turn-walked.ensures.idle (subst (λ (r : ResultView). is_walking r.users c.self.inside.walkers c.args.u ≡ false) (sym x.2) n.0) in (
+      ap₂ (λ (r : ResultView) (s : ScoresView). miner_of c.self.inside.landmarks.items r c.self.inside.snap c.turn-walked.new.self s) (y.0 ∙ x.2) x.1
+          ∙ (ap (λ (w : WalkersView). miner_of c.self.inside.landmarks.items c.self.inside.result c.self.inside.snap w c.self.inside.scores) y.1 ∙ c.self.view_is),
+      y.2 ∙ x.0,
+    )

@@ -9,11 +9,11 @@ use Rattle.kin_graph.specs.Deltas.{DeltaLists}
 use Rattle.kin_hub.specs.Hubs.{deltas_in, snap_in}
 use Rattle.kin_changes.specs.Views.{AreLed}
 use Rattle.kin_mine.specs.Epochs.{BeginsOn}
-use Rattle.kin_mine.specs.Miners.{HasGraph, IsMinerOf, active_in, begun, seen}
+use Rattle.kin_mine.specs.Miners.{IsMinerOf, active_in, begun, seen}
 use Rattle.kin_mine.specs.declared.refusals.BeginRefused.TheVariants as refused
 use Rattle.kin_world.specs.Worlds.{WorldView}
 use Rattle.kin_world.proofs.Epochs.{clear-kept, closed-begun, closed-quiet}
-use Rattle.kin_world.proofs.Leads.{clear-graph, clear-led, clear-said}
+use Rattle.kin_world.proofs.Leads.{clear-led, clear-said}
 use Rattle.kin_world.proofs.Smalls.{clear-small}
 use Rattle.kin_world.proofs.cores.Core.open_next.Goals as goal
 
@@ -33,15 +33,6 @@ begin-requires-clause-small c =
     let there : snap_in c.self.inside.hub c.next_epoch-epoch.result.0 ≡ snap_in w.hub (w.mined + 1) =
     ap (snap_in c.self.inside.hub) c.next_epoch-epoch.ensures ∙ ap (λ (v : WorldView). snap_in v.hub (w.mined + 1)) c.self.view_is in
     subst (λ (stores : List PartState). IsSmall (joined stores)) (sym (c.in_ok-snap.ensures ∙ (found ∙ there))) (clear-small w c.requires.history clear)
-
-pub begin-requires-clause-graph : goal.begin-requires-clause-graph
-begin-requires-clause-graph c =
-    let w = c.args.self.now in
-    let clear = sym c.held_back.ensures ∙ c.in_default.is in
-    let found : c.unwrap.result.now ≡ snap_in c.self.inside.hub c.next_epoch-epoch.result.0 = rw c.unwrap.ensures at c.snapshot.ensures.snap in
-    let there : snap_in c.self.inside.hub c.next_epoch-epoch.result.0 ≡ snap_in w.hub (w.mined + 1) =
-    ap (snap_in c.self.inside.hub) c.next_epoch-epoch.ensures ∙ ap (λ (v : WorldView). snap_in v.hub (w.mined + 1)) c.self.view_is in
-    subst (λ (stores : List PartState). HasGraph (joined stores)) (sym (c.in_ok-snap.ensures ∙ (found ∙ there))) (clear-graph w c.requires.history clear)
 
 pub begin-requires-clause-said : goal.begin-requires-clause-said
 begin-requires-clause-said c =
