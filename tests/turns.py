@@ -139,7 +139,8 @@ class Layers:
         if user in self.active:
             layers, facts = range(self.rule.layers), self.facts.of(user)
             old = [self.value(user, layer) for layer in layers]
-            self.values[user] = [self.rule.made(facts, [(self.facts.of(y), self.value(y, layer)) for y in self.inputs[user]])
+            read = self.inputs[user]
+            self.values[user] = [self.rule.made(facts, [(self.facts.of(y), self.value(y, layer)) for y in read])
                                  for layer in layers]
             ways = [self.told.pop(user, facts), facts]
             self.least.pop(user, None)
