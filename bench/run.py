@@ -13,8 +13,8 @@ beyond another one: `worlds N steps` is `forward` beyond `open`, which reads the
 of a world; `commits N stamps` is `cuts` beyond `open`, the same records stamped, delivered, agreed and cut;
 `commits N commits` is `forward` beyond `cuts`, the commits; and `epochs N singles` is `ones` beyond `before`, the same
 200,000 records, so N epochs of one record. `mining N 0`, `2` and `16` are ten epochs of N records each, mined from so
-many landmarks after 200,000 records as one epoch; with `-open` they are left out, and `0-epochs`, `2-epochs` and
-`16-epochs` are the epochs alone, their commits among them.
+many landmarks after 200,000 records as one epoch; with `-scratch` they are evaluated from scratch instead, and with
+`-open` they are left out; with `-epochs` behind it is the epochs alone, their commits among them.
 """
 import argparse
 import os
@@ -41,11 +41,12 @@ JOBS = [
     *(('epochs', 20000, how) for how in ('before', 'ones', 'tens')),
     *(('epochs', 1000000, how) for how in ('idle', 'idle-release')),
     *(('mining', count, f'{landmarks}{until}') for count in (1, 10, 100, 1000, 10000) for landmarks in (0, 2, 16)
-      for until in ('-open', '')),
+      for until in ('-open', '', '-scratch')),
 ]
 DIFFERENCES = {('worlds', 'forward'): ('steps', 'open'), ('commits', 'cuts'): ('stamps', 'open'),
                ('commits', 'forward'): ('commits', 'cuts'), ('epochs', 'ones'): ('singles', 'before'),
-               **{('mining', str(landmarks)): (f'{landmarks}-epochs', f'{landmarks}-open') for landmarks in (0, 2, 16)}}
+               **{('mining', f'{landmarks}{how}'): (f'{landmarks}{how}-epochs', f'{landmarks}-open')
+                  for landmarks in (0, 2, 16) for how in ('', '-scratch')}}
 SHORT = 20000
 LINES = 1048576
 REPLAY = ['replay', '--script', 'schedule', '--feeds']

@@ -5,7 +5,7 @@
 //! versions alone, and with `-release` after `even`, `long` or `idle` each epoch is let go after the next;
 //! `epochs N before`, which does all of `ones` but its epochs; `mining N 0`, `2` or `16`, epochs of N records each,
 //! mined from so many landmarks after 200,000 records that are mined as one epoch, or `mining N 0-open`, `2-open` or
-//! `16-open`, which end before them.
+//! `16-open`, which end before them, or `0-scratch`, `2-scratch` or `16-scratch`, where they are evaluated from scratch.
 #![tactic(auto)]
 
 mod chains;
