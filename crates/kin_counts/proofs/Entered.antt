@@ -24,7 +24,7 @@ use Rattle.kin_counts.proofs.Laws.{apart, apart-in, apart-out, none-empty}
 use Rattle.kin_counts.proofs.Moving.{raised-fits, lowered-none}
 
 -- who is told of where nobody is new was one of the users
-all-known : (a b : Bool) → (b ≡ true → a ≡ true) → a ≡ (a || b)
+pub all-known : (a b : Bool) → (b ≡ true → a ≡ true) → a ≡ (a || b)
 all-known true b known = refl
 all-known false true known = known refl
 all-known false false known = refl

@@ -3,7 +3,7 @@ use Rattle.std.proofs.Common.{◌≡◌, ◌<◌, ◌≤◌, ◌+◌, ◌∙◌,
 use Rattle.std.specs.List.{list_any}
 use Rattle.std.specs.List.Sorted.{IsStrictlySortedBy}
 use Rattle.std.specs.declared.cmp.Ordering.TheVariants.{Less}
-use Rattle.std.proofs.lemmas.Bool.{both_ways, cases_lt, or_left, or_right, or_cases}
+use Rattle.std.proofs.lemmas.Bool.{both_ways, cases_lt, or_left, or_right, or_cases, or_parts}
 use Rattle.std.proofs.lemmas.Bool.Decides.{nat_tests}
 use Rattle.std.proofs.lemmas.List.{get_or_default, get_or_past}
 use Rattle.std.proofs.lemmas.Map.Keys.{Less-from_sorted}
@@ -15,7 +15,7 @@ use Rattle.kin_rules.proofs.Places.{get-place, has-get, place-absent, place-lt}
 use Rattle.kin_rules.proofs.PlacedValues.{place-at}
 use Rattle.kin_mine.specs.Marks.{IsFirstPlace, are_quiet, is_marked, lesser_of}
 use Rattle.kin_mine.specs.Walkers.{AreLong, WalkersView, is_walking}
-use Rattle.kin_mine.proofs.Columns.{any-at, neither, none-filtered, none-of, quiet-marked}
+use Rattle.kin_mine.proofs.Columns.{any-at, none-filtered, none-of, quiet-marked}
 use Rattle.kin_mine.proofs.Firsts.{first-none}
 
 -- a place is marked in some of these

@@ -91,11 +91,6 @@ lane-quiet users marks values i long off u = split (has_user users u) refl
     split true e = within e
     split false e = get_or_past (get_or marks i []) (place users u) false (let p = place-absent users u e in omega (arith, p, long))
 
-pub neither : (a b : Bool) → (a || b) ≡ false → (a ≡ false) × (b ≡ false)
-neither false false e = (refl, refl)
-neither false true e = absurd cc
-neither true b e = absurd cc
-
 -- where no user is active no place is marked
 pub quiet-places : (s : PushState) → IsPushState s → IsQuiet s → (i : ℕ) → get_or s.marks i false ≡ false
 quiet-places s is quiet i = ⊎_elim inside (λ (ge : length s.marks ≤ i). get_or_past s.marks i false ge) (cases_lt i (length s.marks))

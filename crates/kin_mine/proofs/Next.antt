@@ -13,18 +13,13 @@ use Rattle.kin_changes.proofs.Members.{vertices-law}
 use Rattle.kin_counts.specs.Counts.{IsCountOf}
 use Rattle.kin_counts.specs.declared.plans.CountPlan.{CountPlan}
 use Rattle.kin_counts.specs.Plans.{IsPlanOf, IsTaggedWhereNew, IsWideWhereNew, planned_tags, planned_users, tags_or, users_or}
+use Rattle.kin_counts.proofs.Entered.{all-known}
 use Rattle.kin_pull.specs.Begins.{is_rewired, is_touched}
 use Rattle.kin_pull.proofs.Touched.{touched-law}
 use Rattle.kin_rules.specs.declared.pull_rules.Side.{Side}
 use Rattle.kin_rules.specs.Results.{ResultView, has_tag}
 use Rattle.kin_rules.proofs.KeyOrders.{tag_cmp-exact}
 use Rattle.kin_mine.proofs.Orders.{unique}
-
--- whoever is told of where nobody is new was there
-known-or : (a b : Bool) → (b ≡ true → a ≡ true) → a ≡ (a || b)
-known-or true b known = refl
-known-or false true known = known refl
-known-or false false known = refl
 
 module _ (was is : PartView) (ds : List DeltaLists) (led : AreLed was is ds) (r : ResultView) (counted : IsCountOf was r) (p : CountPlan) (plan : IsPlanOf r ds p) where
   vertex-is : (u : User) → (has_user r.users u || are_told ds u) ≡ is_vertex is u
@@ -34,14 +29,14 @@ module _ (was is : PartView) (ds : List DeltaLists) (led : AreLed was is ds) (r 
   use-is t = ap (λ (b : Bool). b || tells_tag ds t) (counted.tags t) ∙ sym ((vertices-law was is ds led).1 t)
 
   users-are : (o : Option ResultView) → IsWideWhereNew r ds o → AreVertices is (users_or o r.users)
-  users-are None known = record { ascend = counted.users.ascend; all = λ u. known-or (has_user r.users u) (are_told ds u) (known u) ∙ vertex-is u }
+  users-are None known = record { ascend = counted.users.ascend; all = λ u. all-known (has_user r.users u) (are_told ds u) (known u) ∙ vertex-is u }
   users-are (Some w) wide = record { ascend = wide.ascend; all = λ u. wide.all u ∙ vertex-is u }
 
   pub next-users : AreVertices is (planned_users p r)
   next-users = users-are p.wide plan.users
 
   tags-are : (o : Option ResultView) → IsTaggedWhereNew r ds o → IsStrictlySortedBy tag_cmp (tags_or o r.tags) × ((t : List ℕ) → has_tag (tags_or o r.tags) t ≡ is_in_use is t)
-  tags-are None known = (counted.tags_ascend, λ t. known-or (has_tag r.tags t) (tells_tag ds t) (known t) ∙ use-is t)
+  tags-are None known = (counted.tags_ascend, λ t. all-known (has_tag r.tags t) (tells_tag ds t) (known t) ∙ use-is t)
   tags-are (Some x) tagged = (tagged.ascend, λ t. tagged.all t ∙ use-is t)
 
   pub next-tags : IsStrictlySortedBy tag_cmp (planned_tags p r)

@@ -2,7 +2,7 @@
 use Rattle.std.proofs.Common.{◌≡◌, ◌<◌, ◌≤◌, ◌+◌, ◌∙◌, inl, ◌||◌, nat_lt, add-one, ℕ, zero, suc, Bool, true, false, List, [], ◌∷◌, ◌++◌}
 use Rattle.std.proofs.Common.{length, get_or, Option, is_some, unwrap_or, arith, refl, sym, ap, ap₂, subst}
 use Rattle.std.proofs.lemmas.Bool.Decides.{nat_tests}
-use Rattle.std.proofs.lemmas.List.{get_or_append_left, get_or_push, length_push}
+use Rattle.std.proofs.lemmas.List.{get_or_append_left, get_or_push, length_push, get_or_past}
 use Rattle.kin_ids.specs.declared.ids.User.{User}
 use Rattle.kin_ids.specs.Parts.{PartView}
 use Rattle.kin_rules.specs.declared.pull_rules.Facts.{Facts}
@@ -11,14 +11,9 @@ use Rattle.kin_rules.specs.LayerTables.{facts_seen, neighbours_seen}
 use Rattle.kin_rules.specs.Places.{place}
 use Rattle.kin_pull.specs.Keeping.{PullNet, layer_in}
 use Rattle.kin_pull.specs.Passes.{IsDraft, IsTaken, drawn_in}
-use Rattle.kin_pull.specs.Settles.{IsPassed, pass_reads, settle_reads}
+use Rattle.kin_pull.specs.Settles.{IsPassed, changes, is_due}
 use Rattle.kin_pull.specs.States.{KeptView, row_of, IsKept, On, IsQuiet, value_in, now_in, told_in, keeping, net_in}
 use Rattle.kin_pull.proofs.Standing.{inputs-same, pass-law}
-
-get-past : {X : Type 0} (xs : List X) (i : ℕ) (d : X) → length xs ≤ i → get_or xs i d ≡ d
-get-past [] i d le = refl
-get-past (x ∷ xs) zero d le = absurd (omega (arith, le))
-get-past (x ∷ xs) (suc i) d le = get-past xs i d (omega (arith, le))
 
 module _ {V : Type 0} (r : LayerRule V) (v : PartView) (us : List User) (k : KeptView V) where
   abbrev net : PullNet
@@ -84,18 +79,17 @@ module _ {V : Type 0} (r : LayerRule V) (v : PartView) (us : List User) (k : Kep
     pub draft-grown : (is : List (List (Option V))) → is ≡ draft ++ above ∷ [] → IsDraft r v us k (n + 1) is
     draft-grown is e = subst (λ (d : List (List (Option V))). IsDraft r v us k (n + 1) d) (sym e) draft-next
 
-    -- what was read of the layers up to here
-    pub reads-grown : (start was is : ℕ) → was ≡ start + settle_reads r net v (keeping r.first us k) us n
-        → is ≡ was + pass_reads r net v (keeping r.first us k) us n (drawn_in r.first us k n (row_of draft n))
-        → is ≡ start + settle_reads r net v (keeping r.first us k) us (n + 1)
-    reads-grown start was is a b =
-        let same : pass_reads r net v (keeping r.first us k) us n (drawn_in r.first us k n (row_of draft n))
-        ≡ pass_reads r net v (keeping r.first us k) us n (layer_in r net n)
-        = ap (pass_reads r net v (keeping r.first us k) us n) (λ i x. old.each n x (omega arith) i) in
-        let next : settle_reads r net v (keeping r.first us k) us (n + 1) ≡ settle_reads r net v
-        (keeping r.first us k) us n + pass_reads r net v (keeping r.first us k) us n (layer_in r net n)
-        = ap (settle_reads r net v (keeping r.first us k) us) (add-one n) in
-        omega (arith, a, b, same, next)
+    same-layer : drawn_in r.first us k n (row_of draft n) ≡ layer_in r net n
+    same-layer = λ i x. old.each n x (omega arith) i
+
+    -- whose change shows, and who is due, by the rule's layer
+    pub changes-grown : (x : User) → changes r net (keeping r.first us k) n (drawn_in r.first us k n (row_of draft n)) x
+        ≡ changes r net (keeping r.first us k) n (layer_in r net n) x
+    changes-grown x = ap (λ (f : User → V). changes r net (keeping r.first us k) n f x) same-layer
+
+    pub due-grown : (x : User) → is_due r net (keeping r.first us k) us n (drawn_in r.first us k n (row_of draft n)) x
+        ≡ is_due r net (keeping r.first us k) us n (layer_in r net n) x
+    due-grown x = ap (λ (f : User → V). is_due r net (keeping r.first us k) us n f x) same-layer
 
   -- a whole draft is no longer than what is kept
   module _ (top : ℕ) (kept : IsKept top us k) (draft : List (List (Option V))) (is : IsDraft r v us k top draft) where
@@ -109,7 +103,7 @@ module _ {V : Type 0} (r : LayerRule V) (v : PartView) (us : List User) (k : Kep
         here true e = let lt : j < top = grind (arith, nat_tests, e) in omega (arith, is.rows j lt, kept.rows j lt)
         here false e =
             let past : length draft ≤ j = grind (arith, nat_tests, e, is.long) in
-            let none : length (get_or draft j []) ≡ 0 = ap (λ (d : List (Option V)). length d) (get-past draft j [] past) in
+            let none : length (get_or draft j []) ≡ 0 = ap (λ (d : List (Option V)). length d) (get_or_past draft j [] past) in
             omega (arith, none)
 
   -- what is kept after it was taken over

@@ -6,6 +6,7 @@ use Rattle.std.specs.List.Sorted.{IsPermutation}
 use Rattle.std.proofs.lemmas.Bool.{or_parts, both_ways}
 use Rattle.std.proofs.lemmas.Bool.Decides.{nat_tests}
 use Rattle.std.proofs.lemmas.List.Sorted.{IsPermutation-refl, IsPermutation-sym, IsPermutation-trans, IsPermutation-map}
+use Rattle.std.proofs.lemmas.List.{get_or_past}
 use Rattle.kin_ids.specs.declared.ids.User.{User}
 use Rattle.kin_ids.specs.declared.ops.Half.{Half}
 use Rattle.kin_ids.specs.Users.{has_user}
@@ -21,9 +22,10 @@ use Rattle.kin_rules.specs.declared.pull_rules.Facts.{Facts}
 use Rattle.kin_rules.specs.declared.pull_rules.Input.{Input}
 use Rattle.kin_rules.specs.Layers.{LayerRule, IsLayerRule, AreSameFacts, AreSameInputs, blank, inputs_of, layer_of, facts_of, neighbours}
 use Rattle.kin_rules.specs.LayerTables.{present_ends, facts_seen, neighbours_seen}
-use Rattle.kin_pull.specs.Begins.{IsBegun, BeginLaw, EmptyLaw, ReadsLaw, facts_after, is_touched, is_rewired, is_started, differs, is_again}
+use Rattle.kin_pull.specs.Begins.{IsBegun, BeginLaw, EmptyLaw, LayersLaw, ReadsLaw, facts_after, is_touched, is_rewired, is_started, differs, is_again}
 use Rattle.kin_pull.specs.Begins.{epoch_reads}
 use Rattle.kin_pull.specs.Keeping.{PullNet, Keeping, IsJoined, IsStanding, layer_in, shows}
+use Rattle.kin_pull.proofs.WasRead.{ever-same, sum-ever, sum-none}
 use Rattle.kin_pull.specs.Settles.{sum_over, reads_on, changes, is_due, settle_reads}
 use Rattle.kin_pull.specs.States.{KeptView, IsKept, On, IsQuiet, QuietLaw, ViewLaw, value_in, now_in, told_in, is_fresh, is_from, low_in}
 use Rattle.kin_pull.specs.States.{active_at, keeping, net_in, opposite}
@@ -192,11 +194,6 @@ get-none : {X : Type 0} (xs : List X) (i : ℕ) (d : X) → length xs ≡ 0 → 
 get-none [] i d e = refl
 get-none (x ∷ xs) i d e = absurd (omega (arith, e))
 
-get-past : {X : Type 0} (xs : List X) (i : ℕ) (d : X) → length xs ≤ i → get_or xs i d ≡ d
-get-past [] i d le = refl
-get-past (x ∷ xs) zero d le = absurd (omega (arith, le))
-get-past (x ∷ xs) (suc i) d le = get-past xs i d (omega (arith, le))
-
 no-neighbours : (s : Side) (x : User) → neighbours_seen s empty_view x ≡ []
 no-neighbours side.In x = refl
 no-neighbours side.Out x = refl
@@ -208,7 +205,7 @@ module _ {V : Type 0} (r : LayerRule V) (laws : IsLayerRule r) (top : ℕ) (k : 
       here : (b : Bool) → nat_lt j top ≡ b → length (get_or k.rows j []) ≡ 0
       here true e = kept.rows j (grind (arith, nat_tests, e))
       here false e = let le : length k.rows ≤ j = grind (arith, nat_tests, e, kept.layers) in ap (λ (vs : List V). length vs)
-          (get-past k.rows j [] le)
+          (get_or_past k.rows j [] le)
 
   first-values : (j : ℕ) (x : User) → value_in r.first [] k j x ≡ r.first
   first-values zero x = refl
@@ -292,14 +289,23 @@ module _ {V : Type 0} (r : LayerRule V) (laws : IsLayerRule r) (top : ℕ) (was 
       (any-same _ _ vs (λ y. ap (λ (b : Bool). b && has_user (is-net.readers y) x) (changed j y le)))
 
   reads : (n : ℕ) → n ≤ top → settle_reads r is-net is kept-now vs n ≡ epoch_reads r ds was-net is-net is vs n
-  reads zero le = refl
-  reads (suc n) le =
-      let below : n ≤ top = omega (arith, le) in
-      ap₂ (λ (a b : ℕ). a + b) (reads n below)
-      (ap₂ (λ (a b : ℕ). a + b)
-      (sum-same _ _ vs (λ y. ap (λ (b : Bool). if b then reads_on (opposite r.side) is y else 0) (changed n y below)))
-      (sum-same _ _ vs (λ x. ap (λ (b : Bool). if b then reads_on r.side is x else 0) (again n x below))))
+  reads n le =
+      ap₂ (λ (a b : ℕ). a + b)
+      (sum-same _ _ vs (λ y. ap (λ (b : Bool). if b then reads_on (opposite r.side) is y else 0)
+      (ever-same _ _ n (λ j lt. changed j y (omega (arith, lt, le))))))
+      (sum-same _ _ vs (λ x. ap (λ (b : Bool). if b then reads_on r.side is x else 0)
+      (ever-same _ _ n (λ j lt. again j x (omega (arith, lt, le))))))
 
 pub reads-law : (V : Type 0) → ReadsLaw V
 reads-law V r top was is ds us before vs after laws on quiet begun = reads r laws top was is ds us before vs after on quiet begun top
     (omega arith)
+
+pub layers-law : (V : Type 0) → LayersLaw V
+layers-law V r ds was is v us zero =
+    let told = sum-none (λ y. 0) us (λ y. refl) in
+    omega (arith, told)
+layers-law V r ds was is v us (suc n) =
+    let old = layers-law V r ds was is v us n in
+    let told = sum-ever (λ y j. differs r was is j y) (λ y. reads_on (opposite r.side) v y) n us in
+    let again = sum-ever (λ x j. is_again r ds was is us j x) (λ x. reads_on r.side v x) n us in
+    omega (arith, old, told, again)

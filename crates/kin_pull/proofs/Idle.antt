@@ -1,5 +1,5 @@
 -- Where nobody is active a settle reads nothing.
-use Rattle.std.proofs.Common.{◌≡◌, ◌<◌, ◌≤◌, ◌+◌, ◌∙◌, ◌||◌, ◌&&◌, nat_lt, ℕ, zero, suc, Bool, true, false, List, [], ◌∷◌, Option, Some}
+use Rattle.std.proofs.Common.{◌≡◌, ◌<◌, ◌≤◌, ◌+◌, ◌∙◌, ◌||◌, ◌&&◌, nat_lt, ℕ, Bool, true, false, List, [], ◌∷◌, Option, Some}
 use Rattle.std.proofs.Common.{None, IfSome, is_some, length, get_or, if◌then◌else◌, arith, refl, sym, ap, ap₂, subst}
 use Rattle.std.specs.List.{list_any}
 use Rattle.std.specs.List.Sorted.{IsStrictlySortedBy}
@@ -16,16 +16,13 @@ use Rattle.kin_rules.specs.Places.{place}
 use Rattle.kin_rules.proofs.Places.{place-lt, get-place}
 use Rattle.kin_rules.proofs.PlacedValues.{place-at}
 use Rattle.kin_pull.specs.Keeping.{layer_in}
-use Rattle.kin_pull.specs.Settles.{changes, is_due, settle_reads, reads_on, sum_over}
+use Rattle.kin_pull.specs.Settles.{changes, ever, is_due, settle_reads, reads_on}
 use Rattle.kin_pull.specs.States.{KeptView, IsKept, On, IsQuiet, busy_at, is_active, told_in, now_in, value_in, active_at, keeping, net_in}
 use Rattle.kin_pull.specs.States.{opposite}
 use Rattle.kin_pull.proofs.Epochs.{quiet-fresh, quiet-low, quiet-law}
 use Rattle.kin_pull.proofs.Marks.{past-last}
+use Rattle.kin_pull.proofs.WasRead.{ever-none, sum-none}
 use Rattle.kin_pull.proofs.Standing.{shows-none}
-
-sum-none : (f : User → ℕ) (us : List User) → ((x : User) → f x ≡ 0) → sum_over f us ≡ 0
-sum-none f [] none = refl
-sum-none f (u ∷ us) none = let a = none u in let b = sum-none f us none in omega (arith, a, b)
 
 any-none : (p : User → Bool) (us : List User) → ((x : User) → p x ≡ false) → list_any p us ≡ false
 any-none p [] none = refl
@@ -44,21 +41,18 @@ module _ {V : Type 0} (r : LayerRule V) (laws : IsLayerRule r) (top : ℕ) (v : 
   not-due j x le = or_from (active_at us k (j + 1) x) _ (quiet-low us k quiet (j + 1) x)
       (any-none _ us (λ y. ap (λ (b : Bool). b && has_user ((net_in r.side v us k).readers y) x) (unchanged j y le)))
 
-  none-read : (n : ℕ) → n ≤ top → settle_reads r (net_in r.side v us k) v (keeping r.first us k) us n ≡ 0
-  none-read zero le = refl
-  none-read (suc n) le =
-      let below : n ≤ top = omega (arith, le) in
-      let old = none-read n below in
-      let a = sum-none (λ y. if changes r (net_in r.side v us k) (keeping r.first us k) n (layer_in r
-      (net_in r.side v us k) n) y then reads_on (opposite r.side) v y else 0) us
-      (λ y. ap (λ (b : Bool). if b then reads_on (opposite r.side) v y else 0) (unchanged n y below)) in
-      let b = sum-none (λ x. if is_due r (net_in r.side v us k) (keeping r.first us k) us n (layer_in r
-      (net_in r.side v us k) n) x then reads_on r.side v x else 0) us
-      (λ x. ap (λ (b : Bool). if b then reads_on r.side v x else 0) (not-due n x below)) in
-      omega (arith, old, a, b)
+  none-read : settle_reads r (net_in r.side v us k) v (keeping r.first us k) us top ≡ 0
+  none-read =
+      let a = sum-none (λ y. if ever (λ j. changes r (net_in r.side v us k) (keeping r.first us k) j (layer_in r
+      (net_in r.side v us k) j) y) top then reads_on (opposite r.side) v y else 0) us
+      (λ y. ap (λ (b : Bool). if b then reads_on (opposite r.side) v y else 0) (ever-none _ top (λ j lt. unchanged j y (omega (arith, lt))))) in
+      let b = sum-none (λ x. if ever (λ j. is_due r (net_in r.side v us k) (keeping r.first us k) us j (layer_in r
+      (net_in r.side v us k) j) x) top then reads_on r.side v x else 0) us
+      (λ x. ap (λ (b : Bool). if b then reads_on r.side v x else 0) (ever-none _ top (λ j lt. not-due j x (omega (arith, lt))))) in
+      omega (arith, a, b)
 
   pub idle-reads : (steps : ℕ) → steps ≡ steps + settle_reads r (net_in r.side v us k) v (keeping r.first us k) us top
-  idle-reads steps = let none = none-read top (omega arith) in omega (arith, none)
+  idle-reads steps = let none = none-read in omega (arith, none)
 
 -- nobody at any place
 pub none-busy : {V : Type 0} (us : List User) (k : KeptView V) → ((i : ℕ) → busy_at k i ≡ false) → IsQuiet us k

@@ -3,6 +3,7 @@ pub mod Permuted
 pub mod Views
 pub mod Epochs
 pub mod Marks
+pub mod WasRead
 pub mod Drafts
 pub mod Found
 pub mod Tells

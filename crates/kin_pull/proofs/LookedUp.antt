@@ -1,7 +1,8 @@
 -- The places of neighbours, each looked up once.
-use Rattle.std.proofs.Common.{◌≡◌, ◌<◌, ◌∙◌, ℕ, zero, suc, Bool, true, false, List, [], ◌∷◌, map, length, get_or, set, Option, Some, None, IfSome, is_some, arith, refl, sym, ap, subst}
+use Rattle.std.proofs.Common.{◌≡◌, ◌<◌, ◌+◌, ◌∙◌, ℕ, zero, suc, Bool, true, false, List, [], ◌∷◌, ◌++◌, map, length, get_or, set, Option, Some, None, IfSome, is_some}
+use Rattle.std.proofs.Common.{arith, refl, sym, ap, ap₂, subst}
 use Rattle.std.specs.Option.{option_map}
-use Rattle.std.proofs.lemmas.List.{get_or-set_same, get_or-set_other, length-set}
+use Rattle.std.proofs.lemmas.List.{get_or-set_same, get_or-set_other, get_or_append_left, get_or_push, length-set, map-set}
 use Rattle.kin_ids.specs.declared.ids.User.{User}
 use Rattle.kin_ids.specs.Users.{same_user, has_user}
 use Rattle.kin_ids.specs.Parts.{PartView}
@@ -65,3 +66,35 @@ cell-map f (c ∷ cells) (suc p) = cell-map f cells p
 pub some-map : {X Y : Type 0} (f : X → Y) (o : Option X) → is_some o ≡ is_some (option_map f o)
 some-map f None = refl
 some-map f (Some x) = refl
+
+-- rows, by number: one row more leaves the others as they are
+abbrev pub rows-at : List (List ℕ) → List (Option ℕ) → List (Option (List ℕ))
+rows-at rows numbers = map (option_map (λ (k : ℕ). get_or rows k [])) numbers
+
+pub rows-kept : (rows : List (List ℕ)) (row : List ℕ) (numbers : List (Option ℕ))
+    → ((p : ℕ) → IfSome (get_or numbers p None) (λ k. k < length rows)) → rows-at (rows ++ row ∷ []) numbers ≡ rows-at rows numbers
+rows-kept rows row [] below = refl
+rows-kept rows row (None ∷ numbers) below =
+    ap (λ (es : List (Option (List ℕ))). None ∷ es) (rows-kept rows row numbers (λ p. below (suc p)))
+rows-kept rows row (Some k ∷ numbers) below =
+    ap₂ (λ (r : List ℕ) (es : List (Option (List ℕ))). Some r ∷ es) (get_or_append_left rows (row ∷ []) [] k (below zero))
+    (rows-kept rows row numbers (λ p. below (suc p)))
+
+pub rows-put : (rows : List (List ℕ)) (row : List ℕ) (numbers : List (Option ℕ)) (i : ℕ)
+    → ((p : ℕ) → IfSome (get_or numbers p None) (λ k. k < length rows))
+    → rows-at (rows ++ row ∷ []) (set numbers i (Some (length rows))) ≡ set (rows-at rows numbers) i (Some row)
+rows-put rows row numbers i below =
+    map-set (option_map (λ (k : ℕ). get_or (rows ++ row ∷ []) k [])) numbers i (Some (length rows))
+    ∙ ap₂ (λ (es : List (Option (List ℕ))) (r : List ℕ). set es i (Some r)) (rows-kept rows row numbers below) (get_or_push rows row [] (length rows) refl)
+
+wider : (n : ℕ) (o : Option ℕ) → IfSome o (λ k. k < n) → IfSome o (λ k. k < n + 1)
+wider n None h = tt
+wider n (Some k) h = omega (arith, h)
+
+pub rows-below : (n : ℕ) (numbers : List (Option ℕ)) (i : ℕ) → ((p : ℕ) → IfSome (get_or numbers p None) (λ k. k < n))
+    → (p : ℕ) → IfSome (get_or (set numbers i (Some n)) p None) (λ k. k < n + 1)
+rows-below n [] i below p = tt
+rows-below n (o ∷ numbers) zero below zero = omega arith
+rows-below n (o ∷ numbers) zero below (suc p) = wider n (get_or numbers p None) (below (suc p))
+rows-below n (o ∷ numbers) (suc i) below zero = wider n o (below zero)
+rows-below n (o ∷ numbers) (suc i) below (suc p) = rows-below n numbers i (λ q. below (suc q)) p

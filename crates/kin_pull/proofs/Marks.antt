@@ -1,15 +1,14 @@
 -- Marks, lent inputs and values at places, read as those of users.
-use Rattle.std.proofs.Common.{◌≡◌, ◌<◌, ◌≤◌, ◌+◌, ◌∙◌, ◌||◌, ◌==◌, ℕ, zero, suc, Bool, true, false, eqb, eq-eqb, add-one, List, [], ◌∷◌}
+use Rattle.std.proofs.Common.{◌≡◌, ◌<◌, ◌≤◌, ◌+◌, ◌∙◌, ◌||◌, ◌==◌, ℕ, Bool, true, false, eqb, eq-eqb, add-one, List, [], ◌∷◌}
 use Rattle.std.proofs.Common.{◌++◌, map, length, get_or, set, take, Option, Some, None, unwrap_or, if◌then◌else◌, arith, refl, sym, ap, ap₂}
 use Rattle.std.proofs.Common.{subst}
 use Rattle.std.specs.List.{list_any}
 use Rattle.std.proofs.lemmas.Bool.{both_ways, or_left, or_right}
 use Rattle.std.proofs.lemmas.Bool.Decides.{nat_tests}
-use Rattle.std.proofs.lemmas.List.{get_or_default, get_or-set_same, get_or-set_other, get_or_append_left, get_or_push}
+use Rattle.std.proofs.lemmas.List.{get_or_default, get_or_past, get_or-set_same, get_or-set_other, get_or_append_left, get_or_push}
 use Rattle.std.proofs.lemmas.List.Folds.{list_any_more}
-use Rattle.std.specs.List.Sorted.{IsStrictlySortedBy}
 use Rattle.kin_ids.specs.declared.ids.User.{User}
-use Rattle.kin_ids.specs.Users.{same_user, has_user, user_cmp}
+use Rattle.kin_ids.specs.Users.{same_user, has_user}
 use Rattle.kin_ids.specs.Parts.{PartView}
 use Rattle.kin_ids.proofs.Same.{same_user-true, same_user-refl, same_user-sym}
 use Rattle.kin_rules.specs.declared.pull_rules.Facts.{Facts}
@@ -19,11 +18,10 @@ use Rattle.kin_rules.specs.Going.{has_place}
 use Rattle.kin_rules.specs.Layers.{LayerRule, blank, inputs_of}
 use Rattle.kin_rules.specs.Places.{place}
 use Rattle.kin_rules.proofs.Places.{place-lt, place-absent, get-place}
-use Rattle.kin_rules.proofs.PlacedValues.{place-apart, place-at}
-use Rattle.kin_pull.specs.Passes.{IsAbove, lent_at, drawn_in, marked, is_shown, tell_reads, above_in}
-use Rattle.kin_pull.specs.Settles.{IsPassed, is_due, pass_reads, reads_on, sum_over}
+use Rattle.kin_rules.proofs.PlacedValues.{place-apart}
+use Rattle.kin_pull.specs.Passes.{IsAbove, lent_at, drawn_in, marked, is_shown, above_in}
+use Rattle.kin_pull.specs.Settles.{IsPassed}
 use Rattle.kin_pull.specs.States.{KeptView, active_at, value_in, now_in, keeping, net_in}
-use Rattle.kin_pull.proofs.Epochs.{sum-same}
 
 -- places are the same exactly where the users are
 pub place-same : (us : List User) (x y : User) → has_user us y ≡ true → eqb (place us x) (place us y) ≡ same_user x y
@@ -93,12 +91,7 @@ mark-step marks marks' was ends i e lt at below is old k =
 -- past the last place stands the default
 pub past-last : {X : Type 0} (us : List User) (xs : List X) (x : User) (d : X) → length xs ≡ length us → has_user us x ≡ false
     → get_or xs (place us x) d ≡ d
-past-last {X} us xs x d long none = past xs (place us x) (let at = place-absent us x none in omega (arith, long, at))
-  where
-    past : (ys : List X) (i : ℕ) → length ys ≤ i → get_or ys i d ≡ d
-    past [] i le = refl
-    past (y ∷ ys) zero le = absurd (omega (arith, le))
-    past (y ∷ ys) (suc i) le = past ys i (omega (arith, le))
+past-last us xs x d long none = get_or_past xs (place us x) d (let at = place-absent us x none in omega (arith, long, at))
 
 -- who stands at a place of the users
 pub there-at : (us : List User) (x : User) → place us x < length us → has_user us x ≡ true
@@ -122,24 +115,6 @@ lent-inputs {V} first us k j drawn df (y ∷ ys) long there =
     ap₂ (λ (f : Facts) (is : List (Input V)). record { facts = f; value = drawn_in first us k j drawn y } ∷ is) one
     (lent-inputs first us k j drawn df ys long (λ z g. there z (or_right (same_user z y) (has_user ys z) g)))
 
--- sums over the users
-sum-snoc : (f : User → ℕ) (us : List User) (i : ℕ) (d : User) → i < length us → sum_over f (take (i + 1) us)
-    ≡ sum_over f (take i us) + f (get_or us i d)
-sum-snoc f us i d lt = subst (λ (n : ℕ). sum_over f (take n us) ≡ sum_over f (take i us) + f (get_or us i d)) (sym (add-one i))
-    (here us i lt)
-  where
-    here : (vs : List User) (n : ℕ) → n < length vs → sum_over f (take (suc n) vs) ≡ sum_over f (take n vs) + f (get_or vs n d)
-    here [] n lt = absurd (omega (arith, lt))
-    here (v ∷ vs) zero lt = omega arith
-    here (v ∷ vs) (suc n) lt = let old = here vs n (omega (arith, lt)) in omega (arith, old)
-
-pub sum-step : (f : User → ℕ) (us : List User) (i : ℕ) (u d : User) (start was is more : ℕ) → i < length us → u ≡ get_or us i d
-    → more ≡ f u → is ≡ was + more → was ≡ start + sum_over f (take i us) → is ≡ start + sum_over f (take (i + 1) us)
-sum-step f us i u d start was is more lt at e now old =
-    let one : f u ≡ f (get_or us i d) = ap f at in
-    let all = sum-snoc f us i d lt in
-    omega (arith, one, all, e, now, old)
-
 -- one more of a list that is tested
 pub shown-step : {X : Type 0} (test : X → Bool) (xs : List X) (i : ℕ) (x d : X) (start was is : Bool) → i < length xs
     → x ≡ get_or xs i d → is ≡ (was || test x) → was ≡ (start || list_any test (take i xs))
@@ -151,19 +126,6 @@ shown-step {X} test xs i x d start was is lt at now old =
     assoc : (a b c : Bool) → ((a || b) || c) ≡ (a || (b || c))
     assoc true b c = refl
     assoc false b c = refl
-
--- what a pass reads
-module _ {V : Type 0} (r : LayerRule V) (v : PartView) (us : List User) (k : KeptView V) (j : ℕ) (drawn : List (Option V))
-    (marks : List Bool)
-    (are : (x : User) → marked us marks x ≡ (active_at us k (j + 1) x || is_shown r v us k j drawn us x)) where
-  pub pass-reads : (start mid end : ℕ) → mid ≡ start + tell_reads r v us k j drawn us
-      → end ≡ mid + sum_over (λ x. if marked us marks x then reads_on r.side v x else 0) us
-      → end ≡ start + pass_reads r (net_in r.side v us k) v (keeping r.first us k) us j (drawn_in r.first us k j drawn)
-  pass-reads start mid end a b =
-      let same = sum-same (λ x. if marked us marks x then reads_on r.side v x else 0) (λ x. if is_due r (net_in r.side v us k)
-      (keeping r.first us k) us j (drawn_in r.first us k j drawn) x then reads_on r.side v x else 0) us
-      (λ x. ap (λ (b : Bool). if b then reads_on r.side v x else 0) (are x)) in
-      omega (arith, same, a, b)
 
 -- a pass
 module _ {V : Type 0} (r : LayerRule V) (v : PartView) (us : List User) (k : KeptView V) (j : ℕ) (drawn : List (Option V))
@@ -227,8 +189,3 @@ above-whole {V} r v us k j drawn marks above i long le most each = record {
       each (place us x) x (omega (arith, lt, le)) ∙ ap (λ (y : User). if marked us marks x then Some
       (above_in r v us k j drawn y) else None) (get-place us x x there);
 }
-
--- the mark at a place is that of its user
-pub due-read : (f : User → ℕ) (us : List User) (marks : List Bool) (i : ℕ) (d : User) → IsStrictlySortedBy user_cmp us → i < length us
-    → (if get_or marks i false then f (get_or us i d) else 0) ≡ (if marked us marks (get_or us i d) then f (get_or us i d) else 0)
-due-read f us marks i d ascend lt = ap (λ (n : ℕ). if get_or marks n false then f (get_or us i d) else 0) (sym (place-at us i d ascend lt))

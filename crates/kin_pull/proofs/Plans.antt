@@ -7,7 +7,7 @@ use Rattle.std.specs.List.Sorted.{IsStrictlySortedBy}
 use Rattle.std.proofs.Math.Bool.{or-false}
 use Rattle.std.proofs.lemmas.Bool.{both_ways}
 use Rattle.std.proofs.lemmas.Bool.Decides.{nat_tests}
-use Rattle.std.proofs.lemmas.List.{append-nil, append_assoc, get_or_default, get_or-set_same, get_or-set_other, get_or_append_left}
+use Rattle.std.proofs.lemmas.List.{append-nil, append_assoc, get_or_default, get_or-set_same, get_or-set_other, get_or_append_left, get_or_past}
 use Rattle.std.proofs.lemmas.List.{get_or_push, length-map, length_push, map-append, take_more}
 use Rattle.std.proofs.lemmas.List.Sums.{sum_by_more}
 use Rattle.std.proofs.lemmas.Grind.{flat_map-append}
@@ -27,24 +27,10 @@ use Rattle.kin_pull.specs.Begins.{IsBegun, facts_after, is_rewired, is_touched, 
 use Rattle.kin_pull.specs.Passes.{marked}
 use Rattle.kin_pull.specs.Plans.{AreCopied, facts_at, start_of, with_more, with_fewer, with_uses}
 use Rattle.kin_pull.specs.States.{KeptView, IsKept, value_in, now_in, told_in, is_fresh, is_from, active_at}
+use Rattle.kin_rules.proofs.EdgeRows.{found-some, found-none}
 use Rattle.kin_pull.proofs.Marks.{past-last}
 use Rattle.kin_pull.proofs.Permuted.{filter-append}
 use Rattle.kin_pull.proofs.Views.{facts-still}
-
--- who is searched for
-pub found-there : (us : List User) (u : User) (i : ℕ) → found us u ≡ Some i → (has_user us u ≡ true) × (i ≡ place us u)
-found-there us u i e = here (has_user us u) refl e
-  where
-    here : (b : Bool) → has_user us u ≡ b → cond b (Some (place us u)) None ≡ Some i → (has_user us u ≡ true) × (i ≡ place us u)
-    here true h f = let same : place us u ≡ i = cc in (h, sym same)
-    here false h f = absurd cc
-
-pub found-away : (us : List User) (u : User) → found us u ≡ None → has_user us u ≡ false
-found-away us u e = here (has_user us u) refl e
-  where
-    here : (b : Bool) → has_user us u ≡ b → cond b (Some (place us u)) None ≡ None → has_user us u ≡ false
-    here true h f = absurd cc
-    here false h f = h
 
 away-other : (us : List User) (u x : User) → has_user us u ≡ false → has_user us x ≡ true → same_user x u ≡ false
 away-other us u x none there = here (same_user x u) refl
@@ -59,7 +45,7 @@ pub read-set : {Y : Type 0} (us : List User) (ys : List Y) (u : User) (i : ℕ) 
 read-set {Y} us ys u i y d long e x = ap (λ (n : ℕ). get_or (set ys n y) (place us x) d) at.1 ∙ here (same_user x u) refl
   where
     at : (has_user us u ≡ true) × (i ≡ place us u)
-    at = found-there us u i e
+    at = found-some us u i e
 
     here : (b : Bool) → same_user x u ≡ b → get_or (set ys (place us u) y) (place us x) d ≡ (if b then y else get_or ys (place us x) d)
     here true s =
@@ -80,7 +66,7 @@ mark-there us marks u i long e x = read-set us marks u i true false long e x ∙
 
 pub mark-away : (us : List User) (marks : List Bool) (u : User) → found us u ≡ None → (x : User) → has_user us x ≡ true
     → marked us marks x ≡ (marked us marks x || same_user x u)
-mark-away us marks u e x there = sym (ap (λ (b : Bool). marked us marks x || b) (away-other us u x (found-away us u e) there)
+mark-away us marks u e x there = sym (ap (λ (b : Bool). marked us marks x || b) (away-other us u x (found-none us u e) there)
     ∙ or-false (marked us marks x))
 
 -- marks of two tests, one after the other
@@ -118,7 +104,7 @@ module _ (us : List User) (facts : List Facts) (u : User) (i : ℕ) (long : leng
     ≡ Some i) (old new : Facts) (was : old ≡ get_or facts i old) where
   was-at : (x : User) → same_user x u ≡ true → old ≡ facts_at us facts x
   was-at x s =
-      let at = found-there us u i e in
+      let at = found-some us u i e in
       let l = place-lt us u at.0 in
       subst (λ (y : User). old ≡ facts_at us facts y) (sym (same_user-true x u s))
       (was ∙ (ap (λ (n : ℕ). get_or facts n old) at.1 ∙ get_or_default facts (place us u) old (blank u) (omega (arith, l, long))))
@@ -153,14 +139,14 @@ module _ (us : List User) (facts : List Facts) (u : User) (i : ℕ) (long : leng
 -- nobody's facts change
 module _ (us : List User) (u : User) (e : found us u ≡ None) (x : User) (there : has_user us x ≡ true) (f : Facts) where
   pub more-away : f ≡ with_more (if same_user x u then 1 else 0) f
-  more-away = more-none f ∙ ap (λ (b : Bool). with_more (if b then 1 else 0) f) (sym (away-other us u x (found-away us u e) there))
+  more-away = more-none f ∙ ap (λ (b : Bool). with_more (if b then 1 else 0) f) (sym (away-other us u x (found-none us u e) there))
 
   pub fewer-away : f ≡ with_fewer (if same_user x u then 1 else 0) f
-  fewer-away = fewer-none f ∙ ap (λ (b : Bool). with_fewer (if b then 1 else 0) f) (sym (away-other us u x (found-away us u e) there))
+  fewer-away = fewer-none f ∙ ap (λ (b : Bool). with_fewer (if b then 1 else 0) f) (sym (away-other us u x (found-none us u e) there))
 
   pub uses-away : (item : Use) → f ≡ with_uses (if same_user x u then item ∷ [] else []) f
   uses-away item = uses-none f ∙ ap (λ (b : Bool). with_uses (if b then item ∷ [] else []) f) (sym (away-other us u x
-      (found-away us u e) there))
+      (found-none us u e) there))
 
 -- one step of each loop
 module _ {X : Type 0} (xs : List X) (i : ℕ) (x d : X) (lt : i < length xs) (at : x ≡ get_or xs i d) (start was is : Facts) where
@@ -247,11 +233,6 @@ item-step {Y} f ys ys' y d i long is push old p lt = ap (λ (zs : List Y). get_o
     here false e = let same : i ≡ p = grind (arith, nat_tests, e, lt) in subst (λ (n : ℕ). get_or (ys ++ y ∷ []) n d
         ≡ f n) same (get_or_push ys y d i long ∙ is)
 
-get-past : {X : Type 0} (xs : List X) (i : ℕ) (d : X) → length xs ≤ i → get_or xs i d ≡ d
-get-past [] i d le = refl
-get-past (x ∷ xs) zero d le = absurd (omega (arith, le))
-get-past (x ∷ xs) (suc i) d le = get-past xs i d (omega (arith, le))
-
 -- who is none of the users has the first value in each layer
 value-away : {V : Type 0} (first : V) (us : List User) (top : ℕ) (k : KeptView V) → IsKept top us k → (j : ℕ) (x : User)
     → has_user us x ≡ false → value_in first us k j x ≡ first
@@ -262,11 +243,11 @@ value-away {V} first us top k kept (suc j) x none = here (nat_lt j top) refl
     here true e = past-last us (get_or k.rows j []) x first (kept.rows j (grind (arith, nat_tests, e))) none
     here false e =
         let le : length k.rows ≤ j = let l = kept.layers in grind (arith, nat_tests, e, l) in
-        ap (λ (vs : List V). get_or vs (place us x) first) (get-past k.rows j [] le)
+        ap (λ (vs : List V). get_or vs (place us x) first) (get_or_past k.rows j [] le)
 
 value-past : {V : Type 0} (first : V) (us : List User) (rows : List (List V)) (j : ℕ) (x : User) → length rows ≤ j
     → get_or (get_or rows j []) (place us x) first ≡ first
-value-past {V} first us rows j x le = ap (λ (vs : List V). get_or vs (place us x) first) (get-past rows j [] le)
+value-past {V} first us rows j x le = ap (λ (vs : List V). get_or vs (place us x) first) (get_or_past rows j [] le)
 
 from-one : (j : ℕ) → is_from (Some 1) j ≡ nat_lt 0 j
 from-one zero = refl

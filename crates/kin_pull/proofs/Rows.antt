@@ -4,7 +4,7 @@ use Rattle.std.proofs.Common.{get_or, set, Option, None, unwrap_or, if◌then◌
 use Rattle.std.proofs.Common.{subst}
 use Rattle.std.proofs.lemmas.Bool.{both_ways}
 use Rattle.std.proofs.lemmas.Bool.Decides.{nat_tests}
-use Rattle.std.proofs.lemmas.List.{get_or_default, get_or-map, map-set, get_or-set_same, get_or-set_other, length-set, length-map}
+use Rattle.std.proofs.lemmas.List.{get_or_default, get_or-map, map-set, get_or-set_same, get_or-set_other, length-set, length-map, get_or_past}
 use Rattle.kin_pull.specs.States.{row_of}
 
 pub ok-more : {T E : Type 0} (P Q : T → Type 0) (r : Result T E) → ((v : T) → P v → Q v) → IfOk r P → IfOk r Q
@@ -14,11 +14,6 @@ ok-more P Q (Err e) more h = tt
 pub map-after : {X Y Z : Type 0} (f : Y → Z) (g : X → Y) (xs : List X) → map f (map g xs) ≡ map (λ x. f (g x)) xs
 map-after f g [] = refl
 map-after {Z = Z} f g (x ∷ xs) = ap (λ (zs : List Z). f (g x) ∷ zs) (map-after f g xs)
-
-get-past : {X : Type 0} (xs : List X) (i : ℕ) (d : X) → length xs ≤ i → get_or xs i d ≡ d
-get-past [] i d le = refl
-get-past (x ∷ xs) zero d le = absurd (omega (arith, le))
-get-past (x ∷ xs) (suc i) d le = get-past xs i d (omega (arith, le))
 
 -- the row of a layer
 pub row-there : {X W : Type 0} (items : W → List X) (rows : List W) (n : ℕ) (w : W) → 0 < n → n ≤ length rows
@@ -33,7 +28,7 @@ pub row-none : {X W : Type 0} (items : W → List X) (rows : List W) (n : ℕ) �
 row-none items rows zero past = refl
 row-none items rows (suc j) past =
     let le : length (map items rows) ≤ j = let p = past (omega arith) in let l = length-map rows items in omega (arith, p, l) in
-    sym (get-past (map items rows) j [] le)
+    sym (get_or_past (map items rows) j [] le)
 
 -- one list of lists is changed at a place
 pub set-here : {W Y : Type 0} (items : W → List Y) (rows : List W) (j : ℕ) (w : W) → j < length rows

@@ -62,7 +62,7 @@ module _ {V : Type 0} (r : LayerRule V) (us : List User) (k : KeptView V) (j : �
       λ t. shows r (told-is t) (now-is t) (m t) (was-is t) (is-is t)
 
 -- telling
-or-same : (m b c : Bool) → b ≡ false → m ≡ (m || (b && c))
+pub or-same : (m b c : Bool) → b ≡ false → m ≡ (m || (b && c))
 or-same true b c e = refl
 or-same false b c e = sym (ap (λ (a : Bool). a && c) e)
 

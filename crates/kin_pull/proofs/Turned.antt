@@ -5,14 +5,13 @@ use Rattle.std.proofs.Common.{if◌then◌else◌, arith, refl, sym, ap, ap₂, 
 use Rattle.std.proofs.lemmas.Bool.{both_ways, or_left, or_right, or_parts, or_cases, and_parts}
 use Rattle.std.proofs.lemmas.Bool.Decides.{nat_tests}
 use Rattle.std.proofs.lemmas.Option.{unwrap_or-slice_get}
-use Rattle.std.proofs.lemmas.List.{get_or_default, get_or_append_left, get_or_push, length_push}
+use Rattle.std.proofs.lemmas.List.{get_or_default, get_or_append_left, get_or_push, length_push, get_or_past}
 use Rattle.kin_ids.specs.declared.ids.User.{User}
 use Rattle.kin_ids.specs.Users.{same_user, has_user}
 use Rattle.kin_ids.specs.Parts.{PartView}
 use Rattle.kin_ids.proofs.Same.{same_user-true, same_user-refl, same_user-sym}
 use Rattle.kin_rules.specs.declared.pull_rules.Facts.{Facts}
 use Rattle.kin_rules.specs.declared.pull_rules.Input.{Input}
-use Rattle.kin_rules.specs.declared.pull_rules.Side.{Side}
 use Rattle.kin_rules.specs.Edges.{places_of}
 use Rattle.kin_rules.specs.Going.{has_place}
 use Rattle.kin_rules.specs.Layers.{LayerRule, IsLayerRule, AreSameFacts, blank, inputs_of}
@@ -28,11 +27,6 @@ use Rattle.kin_pull.specs.Turns.{IsTurn, IsMoved, IsRested}
 use Rattle.kin_pull.proofs.Marks.{past-last, place-same, places-there, places-has, there-at}
 use Rattle.kin_pull.proofs.Standing.{inputs-same, shows-none, turn-law}
 use Rattle.kin_pull.proofs.Tells.{ends-below, inputs-there, readers-there}
-
-get-past : {X : Type 0} (xs : List X) (i : ℕ) (d : X) → length xs ≤ i → get_or xs i d ≡ d
-get-past [] i d le = refl
-get-past (x ∷ xs) zero d le = absurd (omega (arith, le))
-get-past (x ∷ xs) (suc i) d le = get-past xs i d (omega (arith, le))
 
 -- inputs where the turning user has its column
 pub turned-inputs : {V : Type 0} (first : V) (us : List User) (k : KeptView V) (column : List V) (u : User) (i j : ℕ) (df : Facts)
@@ -130,7 +124,7 @@ module _ {V : Type 0} (r : LayerRule V) (laws : IsLayerRule r) (top : ℕ) (v : 
 
   -- the layers
   past-value : (n : KeptView V) (j : ℕ) (x : User) → length n.rows ≤ j → value_in r.first us n (suc j) x ≡ r.first
-  past-value n j x le = ap (λ (row : List V). get_or row (place us x) r.first) (get-past n.rows j [] le)
+  past-value n j x le = ap (λ (row : List V). get_or row (place us x) r.first) (get_or_past n.rows j [] le)
 
   other-value : (j : ℕ) (x : User) → same_user u x ≡ false → value_in r.first us new j x ≡ value_in r.first us k j x
   other-value zero x apart = refl
@@ -378,9 +372,9 @@ module _ {V : Type 0} (r : LayerRule V) (top : ℕ) (v : PartView) (us : List Us
       let a : length new.rows ≤ j = omega (arith, le, over.rows, kept.layers) in
       let b : length k.rows ≤ j = omega (arith, le, kept.layers) in
       let c : length plan.column ≤ j = omega (arith, le, is.column.long) in
-      ap (λ (row : List V). get_or row p d) (get-past new.rows j [] a) ∙ (either (eqb p (place us u)) d
-      ∙ ap₂ (λ (x y : V). if eqb p (place us u) then x else y) (sym (unwrap_or-slice_get plan.column j d ∙ get-past plan.column j d c))
-      (sym (ap (λ (row : List V). get_or row p d) (get-past k.rows j [] b))))
+      ap (λ (row : List V). get_or row p d) (get_or_past new.rows j [] a) ∙ (either (eqb p (place us u)) d
+      ∙ ap₂ (λ (x y : V). if eqb p (place us u) then x else y) (sym (unwrap_or-slice_get plan.column j d ∙ get_or_past plan.column j d c))
+      (sym (ap (λ (row : List V). get_or row p d) (get_or_past k.rows j [] b))))
 
   -- places past the last user
   past-place : (j : ℕ) → j < top → (p : ℕ) (d : V) → length us ≤ p → get_or (get_or new.rows j []) p d
@@ -389,7 +383,7 @@ module _ {V : Type 0} (r : LayerRule V) (top : ℕ) (v : PartView) (us : List Us
       let a : length (get_or new.rows j []) ≤ p = omega (arith, le, over.longs j, kept.rows j lt) in
       let b : length (get_or k.rows j []) ≤ p = omega (arith, le, kept.rows j lt) in
       let apart : eqb p (place us u) ≡ false = let at = is.at in let within = is.within in grind (arith, nat_tests, at, within, le) in
-      get-past (get_or new.rows j []) p d a ∙ (sym (get-past (get_or k.rows j []) p d b)
+      get_or_past (get_or new.rows j []) p d a ∙ (sym (get_or_past (get_or k.rows j []) p d b)
       ∙ sym (ap (λ (b : Bool). if b then unwrap_or (slice_get plan.column j) d else get_or (get_or k.rows j []) p d) apart))
 
   pub turned-row : (j p : ℕ) (d : V) → get_or (row_in new j) p d

@@ -1,5 +1,5 @@
 -- What an epoch begins with.
-use Rattle.std.specs.Prelude.{true, ◌≡◌, ◌+◌, ◌-◌, ◌&&◌, ◌||◌, not, nat_lt, ℕ, zero, suc, Bool, false, List, [], ◌++◌, map, filter}
+use Rattle.std.specs.Prelude.{true, ◌≡◌, ◌≤◌, ◌+◌, ◌-◌, ◌&&◌, ◌||◌, not, nat_lt, ℕ, zero, suc, Bool, false, List, [], ◌++◌, map, filter}
 use Rattle.std.specs.Prelude.{if◌then◌else◌}
 use Rattle.std.specs.List.{list_any, flat_map}
 use Rattle.kin_ids.specs.declared.ids.User.{User}
@@ -16,7 +16,7 @@ use Rattle.kin_rules.specs.declared.pull_rules.Side.TheVariants as side
 use Rattle.kin_rules.specs.declared.pull_rules.Facts.{Facts}
 use Rattle.kin_rules.specs.Layers.{LayerRule, IsLayerRule}
 use Rattle.kin_pull.specs.Keeping.{PullNet, layer_in}
-use Rattle.kin_pull.specs.Settles.{reads_on, sum_over, settle_reads}
+use Rattle.kin_pull.specs.Settles.{ever, reads_on, sum_over, settle_reads}
 use Rattle.kin_pull.specs.States.{KeptView, IsKept, On, IsQuiet, value_in, now_in, told_in, is_fresh, active_at, keeping, net_in, opposite}
 
 -- the first uses of a user that are new
@@ -85,14 +85,12 @@ differs r was is j y = not (r.alike (was.facts y) (layer_in r was j y) (is.facts
 abbrev pub is_again : {V : Type 0} → LayerRule V → List DeltaLists → PullNet → PullNet → List User → ℕ → User → Bool
 is_again r ds was is us j x = is_started r ds was.facts x || list_any (λ y. differs r was is j y && has_user (is.readers y) x) us
 
--- What a settle reads that follows the begin of an epoch at once: for each layer, once the edges to the readers of each user that gives
--- them
--- something else than in the epoch before, and once the edges to the inputs of each user that is computed again.
+-- What a settle reads that follows the begin of an epoch at once: once the edges to the readers of each user that gives them something
+-- else than in the epoch before in one of n layers, and once the edges to the inputs of each user that is computed again above one of them.
 abbrev pub epoch_reads : {V : Type 0} → LayerRule V → List DeltaLists → PullNet → PullNet → PartView → List User → ℕ → ℕ
-epoch_reads r ds was is v us zero = 0
-epoch_reads r ds was is v us (suc n) = epoch_reads r ds was is v us n
-    + (sum_over (λ y. if differs r was is n y then reads_on (opposite r.side) v y else 0) us
-    + sum_over (λ x. if is_again r ds was is us n x then reads_on r.side v x else 0) us)
+epoch_reads r ds was is v us n =
+    sum_over (λ y. if ever (λ j. differs r was is j y) n then reads_on (opposite r.side) v y else 0) us
+    + sum_over (λ x. if ever (λ j. is_again r ds was is us j x) n then reads_on r.side v x else 0) us
 
 abbrev pub ReadsLaw : Type 0 → Type 0
 ReadsLaw V = (r : LayerRule V) (top : ℕ) (was is : PartView) (ds : List DeltaLists) (us : List User) (before : KeptView V)
@@ -100,6 +98,18 @@ ReadsLaw V = (r : LayerRule V) (top : ℕ) (was is : PartView) (ds : List DeltaL
     → IsLayerRule r → On r top was us before → IsQuiet us before → IsBegun r ds us before vs after
     → settle_reads r (net_in r.side is vs after) is (keeping r.first vs after) vs top
     ≡ epoch_reads r ds (net_in r.side was us before) (net_in r.side is vs after) is vs top
+
+-- the same edges, once for each layer
+abbrev pub layered_reads : {V : Type 0} → LayerRule V → List DeltaLists → PullNet → PullNet → PartView → List User → ℕ → ℕ
+layered_reads r ds was is v us zero = 0
+layered_reads r ds was is v us (suc n) = layered_reads r ds was is v us n
+    + (sum_over (λ y. if differs r was is n y then reads_on (opposite r.side) v y else 0) us
+    + sum_over (λ x. if is_again r ds was is us n x then reads_on r.side v x else 0) us)
+
+-- an epoch reads at most what it would if each layer were read for itself
+abbrev pub LayersLaw : Type 0 → Type 0
+LayersLaw V = (r : LayerRule V) (ds : List DeltaLists) (was is : PullNet) (v : PartView) (us : List User) (n : ℕ)
+    → epoch_reads r ds was is v us n ≤ layered_reads r ds was is v us n
 
 -- whoever deltas tell of is a vertex of the view to which they lead
 abbrev pub TouchedLaw : Type 0

@@ -1,5 +1,5 @@
 -- How a settle computes a layer from the one below, by place.
-use Rattle.std.specs.Prelude.{◌≡◌, ◌<◌, ◌≤◌, ◌&&◌, ℕ, Bool, true, false, List, [], Option, Some, None, IfSome, unwrap_or, length}
+use Rattle.std.specs.Prelude.{◌≡◌, ◌<◌, ◌≤◌, ◌&&◌, ℕ, Bool, true, false, List, [], Option, Some, None, IfSome, is_some, unwrap_or, length}
 use Rattle.std.specs.Prelude.{slice_index_or}
 use Rattle.std.specs.Prelude.{if◌then◌else◌}
 use Rattle.std.specs.List.{list_any}
@@ -42,10 +42,6 @@ abbrev pub is_shown : {V : Type 0} → LayerRule V → PartView → List User �
 is_shown r v us k j drawn tellers x = list_any (λ y. changes_in r us k j drawn y && has_user (neighbours_seen
     (opposite r.side) v y) x) tellers
 
--- what is read where each of these users whose change shows tells its readers
-abbrev pub tell_reads : {V : Type 0} → LayerRule V → PartView → List User → KeptView V → ℕ → List (Option V) → List User → ℕ
-tell_reads r v us k j drawn tellers = sum_over (λ y. if changes_in r us k j drawn y then reads_on (opposite r.side) v y else 0) tellers
-
 -- the value of the layer above
 abbrev pub above_in : {V : Type 0} → LayerRule V → PartView → List User → KeptView V → ℕ → List (Option V) → User → V
 above_in r v us k j drawn x = next_of r (net_in r.side v us k) (drawn_in r.first us k j drawn) x
@@ -84,6 +80,14 @@ pub record AreRead (s : Side) (v : PartView) (us : List User) (ends : List (Opti
   pub long : length ends ≡ length us
   pub each : (x : User) → has_user us x ≡ true
       → IfSome (slice_index_or ends (place us x) None) (λ row. row ≡ places_of us (neighbours_seen s v x))
+
+-- whether the edges of a user were read
+abbrev pub was_read : List User → List (Option (List ℕ)) → User → Bool
+was_read us ends x = is_some (slice_index_or ends (place us x) None)
+
+-- what was read of all whose edges on a side were read
+abbrev pub read_of : Side → PartView → List User → List (Option (List ℕ)) → ℕ
+read_of s v us ends = sum_over (λ x. if was_read us ends x then reads_on s v x else 0) us
 
 -- everybody's shares
 pub record AreSharesAt {V : Type 0} (share : Facts → V → ℕ) (first : V) (k : KeptView V) (j : ℕ) (drawn : List (Option V))

@@ -40,14 +40,14 @@ sum_over f (u ∷ us) = f u + sum_over f us
 abbrev pub reads_on : Side → PartView → User → ℕ
 reads_on s v u = 1 + length (halves_on s v u)
 
--- What is read for the layer above j: once the edges to the readers of each user whose layer j changes, and once the edges to the inputs of
--- each user who is computed again.
-abbrev pub pass_reads : {V : Type 0} → LayerRule V → PullNet → PartView → Keeping V → List User → ℕ → (User → V) → ℕ
-pass_reads r net v e us j values =
-    sum_over (λ y. if changes r net e j values y then reads_on (opposite r.side) v y else 0) us
-    + sum_over (λ x. if is_due r net e us j values x then reads_on r.side v x else 0) us
+-- whether this holds of a number below n
+abbrev pub ever : (ℕ → Bool) → ℕ → Bool
+ever f zero = false
+ever f (suc n) = ever f n || f n
 
--- what is read for the first n layers, from what is kept to the rule's layers
+-- What is read for the first n layers, from what is kept to the rule's layers: once the edges to the readers of each user whose change
+-- shows in one of them, and once the edges to the inputs of each user who is computed again above one of them.
 abbrev pub settle_reads : {V : Type 0} → LayerRule V → PullNet → PartView → Keeping V → List User → ℕ → ℕ
-settle_reads r net v e us zero = 0
-settle_reads r net v e us (suc n) = settle_reads r net v e us n + pass_reads r net v e us n (layer_in r net n)
+settle_reads r net v e us n =
+    sum_over (λ y. if ever (λ j. changes r net e j (layer_in r net j) y) n then reads_on (opposite r.side) v y else 0) us
+    + sum_over (λ x. if ever (λ j. is_due r net e us j (layer_in r net j) x) n then reads_on r.side v x else 0) us

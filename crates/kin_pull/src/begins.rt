@@ -13,24 +13,25 @@ ghost use Rattle.kin_pull.specs.States.{IsKept, now_in, row_in, value_in};
 
 use crate::deltas::{change_facts, touched_marks, wired_marks};
 use crate::kept::Kept;
-use crate::places::{find, place_of};
+use crate::places::{find_next, next_place};
 use kin_graph::Delta;
 use kin_ids::{Memory, User};
 use kin_rules::{Facts, PullRule};
 use std::alloc::Global;
 
-// A copy of the facts of a user.
+// A copy of the facts of a user, whose place may be the next one.
 fn facts_of<V: Drop>(
     alloc: Global,
     users: &[User],
     kept: &Kept<V>,
+    next: &mut usize,
     u: User,
 ) -> Result<Facts, Memory>
     requires ascend { IsStrictlySortedBy user_cmp users.now }
     requires long { length kept.now.facts ≡ length users.now }
     ensures { IfOk result (λ facts. facts ≡ now_in users.now kept.now u) }
 {
-    match find(users, u) {
+    match find_next(users, next, u) {
         Some(i) => kept.facts()[i].copy(alloc),
         None => Ok(Facts::blank(alloc, u)),
     }
@@ -48,8 +49,9 @@ fn all_facts<V: Drop>(
     ensures { IfOk result (λ facts. facts.items ≡ map (now_in users.now kept.now) more.now) }
 {
     let mut facts = Vec::with_capacity(alloc, more.len())?;
+    let mut next = 0;
     for user in more {
-        facts.push(facts_of(alloc, users, kept, *user)?)?;
+        facts.push(facts_of(alloc, users, kept, &mut next, *user)?)?;
     }
     Ok(facts)
 }
@@ -60,8 +62,9 @@ fn places(alloc: Global, users: &[User], more: &[User]) -> Result<Vec<usize>, Me
     ensures { IfOk result (λ places. places.items ≡ map (place users.now) more.now) }
 {
     let mut places = Vec::with_capacity(alloc, more.len())?;
+    let mut next = 0;
     for user in more {
-        places.push(place_of(users, *user))?;
+        places.push(next_place(users, &mut next, *user))?;
     }
     Ok(places)
 }
@@ -139,6 +142,7 @@ fn told_if<V: Drop>(
     alloc: Global,
     users: &[User],
     kept: &Kept<V>,
+    next: &mut usize,
     u: User,
     changes: bool,
 ) -> Result<Option<Facts>, Memory>
@@ -149,7 +153,7 @@ fn told_if<V: Drop>(
     if !changes {
         return Ok(None);
     }
-    Ok(Some(facts_of(alloc, users, kept, u)?))
+    Ok(Some(facts_of(alloc, users, kept, next, u)?))
 }
 
 // Copies of the facts of more users, of those whose facts change.
@@ -169,8 +173,9 @@ fn all_told<V: Drop>(
         (now_in users.now kept.now (slice_index_or more.now i d)) else None)) }
 {
     let mut told = Vec::with_capacity(alloc, more.len())?;
+    let mut next = 0;
     for i in 0..more.len() {
-        told.push(told_if(alloc, users, kept, more[i], marks[i])?)?;
+        told.push(told_if(alloc, users, kept, &mut next, more[i], marks[i])?)?;
     }
     Ok(told)
 }
@@ -218,8 +223,8 @@ fn starts<R: PullRule>(
 
 /// What is kept where the epoch of these deltas begins, over the users that it has then: no layer changes, and who is
 /// new has the first value in each; the facts are those after the deltas; active are those an input of whom came or
-/// went, and those whose own facts make other values. It costs two look-ups of each user, and a copy of
-/// its facts and layers.
+/// went, and those whose own facts make other values. It costs a look-up of each user that the deltas tell of, and of
+/// whoever comes after somebody new, and a copy of all facts and layers.
 pub fn plan<R: PullRule>(
     alloc: Global,
     rule: &R,

@@ -1,19 +1,19 @@
 //! The places of neighbours, each looked up once.
 
-ghost use Rattle.std.specs.Prelude.{◌≡◌, ◌+◌, ◌<◌, ℕ, Some, None, IfOk, IfSome, OnOk, is_some, length, slice_index_or};
-ghost use Rattle.std.specs.Prelude.{slice_set};
+ghost use Rattle.std.specs.Prelude.{◌≡◌, ◌==◌, ◌+◌, ◌<◌, ◌||◌, ℕ, true, Some, None, IfOk, IfSome, OnErr, OnOk, is_some};
+ghost use Rattle.std.specs.Prelude.{length, slice_index_or, slice_set};
 ghost use Rattle.std.specs.List.Sorted.{IsStrictlySortedBy};
-ghost use Rattle.kin_ids.specs.Users.{user_cmp};
+ghost use Rattle.kin_ids.specs.declared.ids.User.{User};
+ghost use Rattle.kin_ids.specs.Users.{has_user, user_cmp};
 ghost use Rattle.kin_rules.specs.Edges.{places_of};
 ghost use Rattle.kin_rules.specs.LayerTables.{neighbours_seen};
 ghost use Rattle.kin_rules.specs.Places.{place};
-ghost use Rattle.kin_pull.specs.Passes.{AreRead};
-ghost use Rattle.kin_pull.specs.Settles.{reads_on};
+ghost use Rattle.kin_pull.specs.Passes.{AreRead, read_of, was_read};
 
 use crate::places::{ends, halves_on};
 use kin_graph::{Steps, View};
 use kin_ids::{Memory, User};
-use kin_rules::Side;
+use kin_rules::{Edges, Side};
 use std::alloc::Global;
 use std::marker::Model;
 use std::sync::ledger::Ledger;
@@ -21,16 +21,20 @@ use std::sync::ledger::Ledger;
 /// For each user at its place, the places of its neighbours on a side, where they were looked up.
 #[derive(Drop)]
 pub(crate) struct Ends {
-    rows: Vec<Option<Vec<usize>>>,
+    // of each user that was looked up, which of the rows is its
+    numbers: Vec<Option<usize>>,
+    rows: Edges,
 }
 
 impl Model for Ends {
-    ghost use Rattle.std.specs.Prelude.{ℕ, List, Option, map};
+    ghost use Rattle.std.specs.Prelude.{◌<◌, ℕ, List, [], Option, None, IfSome, length, map, slice_index_or};
     ghost use Rattle.std.specs.Option.{option_map};
 
     ghost Value = { List (Option (List ℕ)) };
 
-    ghost view = { λ a. map (option_map (λ r. r.items)) a.rows.items };
+    ghost view = { λ a. map (option_map (λ k. slice_index_or a.rows k [])) a.numbers.items };
+
+    ghost invariant = { λ a. (p : ℕ) → IfSome (slice_index_or a.numbers.items p None) (λ k. k < length a.rows) };
 }
 
 impl Ends {
@@ -40,7 +44,8 @@ impl Ends {
         ensures none { IfOk result (λ e. (p : ℕ) → slice_index_or e p None ≡ None) }
     {
         Ok(Ends {
-            rows: no_cells(alloc, n)?,
+            numbers: no_cells(alloc, n)?,
+            rows: Edges::new(alloc),
         })
     }
 
@@ -49,15 +54,19 @@ impl Ends {
         requires { i < length self.now }
         ensures { result ≡ is_some (slice_index_or self.now i None) }
     {
-        self.rows[i].is_some()
+        self.numbers[i].is_some()
     }
 
     // Keeps those of the user at a place.
-    fn put(&mut self, i: usize, row: Vec<usize>)
+    fn put(&mut self, i: usize, row: &[usize]) -> Result<(), Memory>
         requires { i < length self.old }
-        ensures { self.new ≡ slice_set self.old i (Some row.items) }
+        ensures ok { OnOk result (self.new ≡ slice_set self.old i (Some row.now)) }
+        ensures err { OnErr result (self.new ≡ self.old) }
     {
-        self.rows[i] = Some(row);
+        let number = self.rows.len();
+        self.rows.push_row(row)?;
+        self.numbers[i] = Some(number);
+        Ok(())
     }
 
     /// Those of the user at a place. O(1).
@@ -65,13 +74,13 @@ impl Ends {
         requires { i < length self.now }
         ensures { IfSome (slice_index_or self.now i None) (λ row. result.now ≡ row) }
     {
-        match &self.rows[i] {
-            Some(row) => row.as_slice(),
+        match self.numbers[i] {
+            Some(number) => self.rows.row(number),
             None => &[],
         }
     }
 
-    /// Reads the edges of the user at a place, and looks the places of its neighbours up where that wasn't done before.
+    /// Reads the edges of the user at a place and looks the places of its neighbours up, where that wasn't done before.
     pub(crate) fn read<V: View, L: Ledger>(
         &mut self,
         alloc: Global,
@@ -89,14 +98,17 @@ impl Ends {
         ensures read { AreRead side (V.seen view.now) users.now self.new }
         ensures there { OnOk result (slice_index_or self.new i None
             ≡ Some (places_of users.now (neighbours_seen side (V.seen view.now) user))) }
-        ensures reads { steps.new ≡ steps.old + reads_on side (V.seen view.now) user }
+        ensures was { OnOk result ((x : User) → has_user users.now x ≡ true
+            → was_read users.now self.new x ≡ (was_read users.now self.old x || place users.now x == i)) }
+        ensures reads { OnOk result (steps.new + read_of side (V.seen view.now) users.now self.old
+            ≡ steps.old + read_of side (V.seen view.now) users.now self.new) }
     {
-        let halves = halves_on(view, side, user, steps);
         if self.has(i) {
             return Ok(());
         }
+        let halves = halves_on(view, side, user, steps);
         let row = ends(alloc, users, halves)?;
-        self.put(i, row);
+        self.put(i, row.as_slice())?;
         Ok(())
     }
 }

@@ -10,6 +10,7 @@ pub mod laws;
 mod passes;
 mod places;
 pub mod settles;
+mod showing;
 pub mod turns;
 
 pub use begins::plan;

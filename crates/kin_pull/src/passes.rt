@@ -1,9 +1,8 @@
 //! A settle layer by layer: who is due, and what is computed again.
 
-ghost use Rattle.std.specs.Prelude.{◌≡◌, ◌^◌, ◌+◌, ◌<◌, ◌≤◌, ◌&&◌, ◌||◌, ℕ, Bool, true, false, List, [], Option, Some};
-ghost use Rattle.std.specs.Prelude.{None, IfOk, IfSome};
-ghost use Rattle.std.specs.Prelude.{OnOk};
-ghost use Rattle.std.specs.Prelude.{All, unwrap_or, length, map, take, slice_index_or, if◌then◌else◌};
+ghost use Rattle.std.specs.Prelude.{◌≡◌, ◌==◌, ◌^◌, ◌+◌, ◌<◌, ◌&&◌, ◌||◌, ℕ, Bool, true, false, List, [], Option, Some};
+ghost use Rattle.std.specs.Prelude.{None, IfOk, IfSome, OnOk, All, unwrap_or, length, map, take, slice_index_or};
+ghost use Rattle.std.specs.Prelude.{if◌then◌else◌};
 ghost use Rattle.kin_ids.specs.declared.ids.User.{User};
 ghost use Rattle.kin_ids.specs.Users.{has_user};
 ghost use Rattle.kin_rules.specs.declared.pull_rules.Facts.{Facts};
@@ -11,185 +10,19 @@ ghost use Rattle.kin_rules.specs.Going.{has_place};
 ghost use Rattle.kin_rules.specs.LayerTables.{neighbours_seen};
 ghost use Rattle.kin_rules.specs.Layers.{lent};
 ghost use Rattle.kin_rules.specs.Places.{place};
-ghost use Rattle.kin_pull.specs.Keeping.{shows};
-ghost use Rattle.kin_pull.specs.Passes.{AreRead, AreSharesAt, IsAbove, above_in, changes_in, drawn_in, is_shown};
-ghost use Rattle.kin_pull.specs.Passes.{lent_at, marked};
-ghost use Rattle.kin_pull.specs.Passes.{tell_reads};
-ghost use Rattle.kin_pull.specs.Settles.{IsPassed, pass_reads, reads_on, sum_over};
+ghost use Rattle.kin_pull.specs.Passes.{AreRead, AreSharesAt, IsAbove, above_in, drawn_in, lent_at, marked, read_of};
+ghost use Rattle.kin_pull.specs.Passes.{was_read};
+ghost use Rattle.kin_pull.specs.Settles.{IsPassed, changes, is_due};
 ghost use Rattle.kin_pull.specs.States.{IsKept, On, active_at, keeping, net_in, opposite, row_in};
 
 use crate::ends::Ends;
 use crate::kept::{Kept, is_from};
-use crate::places::opposite;
+use crate::showing::{drawn_value, tell_all};
 use kin_graph::{Steps, View};
 use kin_ids::{Memory, User};
 use kin_rules::{Facts, Lent, PullRule};
 use std::alloc::Global;
 use std::sync::ledger::Ledger;
-
-/// The value at a place that was computed again, or else the one that is kept.
-pub(crate) fn drawn_value<'a, V: Drop>(
-    kept: &'a Kept<V>,
-    first: &'a V,
-    layer: u32,
-    drawn: &'a [Option<V>],
-    i: usize,
-) -> &'a V
-    ensures { result.now ≡ unwrap_or (slice_index_or drawn.now i None)
-        (slice_index_or (row_in kept.now layer) i first.now) }
-{
-    match drawn.get(i) {
-        Some(Some(value)) => value,
-        _ => kept.value(first, layer, i),
-    }
-}
-
-/// Whether a change of an input shows to its readers.
-pub(crate) fn shows<R: PullRule>(
-    rule: &R,
-    told: &Facts,
-    now: &Facts,
-    mixed: bool,
-    was: &R::Value,
-    is: &R::Value,
-) -> bool
-    ensures { result ≡ shows (R.seen rule.now) told.now now.now mixed was.now is.now }
-{
-    if !rule.input_alike(told, was, now, is) {
-        return true;
-    }
-    mixed && !rule.input_alike(now, was, now, is)
-}
-
-// Whether nothing was computed again at a place, and its user has told its facts of now.
-fn is_still<V: Drop>(kept: &Kept<V>, drawn: &[Option<V>], i: usize) -> bool
-    requires { i < length kept.now.told }
-    ensures { result ≡ true → (slice_index_or drawn.now i None ≡ None) × (slice_index_or kept.now.told i None ≡ None) }
-{
-    if let Some(Some(_)) = drawn.get(i) {
-        return false;
-    }
-    kept.told()[i].is_none()
-}
-
-// Whether the change of the user at a place shows to its readers.
-fn changes<R: PullRule>(
-    rule: &R,
-    users: &[User],
-    kept: &Kept<R::Value>,
-    first: &R::Value,
-    layer: u32,
-    drawn: &[Option<R::Value>],
-    i: usize,
-    user: User,
-) -> bool
-    requires kept { IsKept R.LAYERS users.now kept.now }
-    requires first { first.now ≡ (R.seen rule.now).first }
-    requires within { i < length users.now }
-    requires at { place users.now user ≡ i }
-    ensures { result ≡ changes_in (R.seen rule.now) users.now kept.now layer drawn.now user }
-{
-    let _ = users;
-    let _ = user;
-    if is_still(kept, drawn, i) {
-        return false;
-    }
-    shows(
-        rule,
-        kept.told_facts(i),
-        &kept.facts()[i],
-        kept.is_mixed(),
-        kept.value(first, layer, i),
-        drawn_value(kept, first, layer, drawn, i),
-    )
-}
-
-// Marks these places.
-fn mark_all(marks: &mut Vec<bool>, ends: &[usize])
-    requires { All (λ i. i < length marks.old.items) ends.now }
-    ensures long { length marks.new.items ≡ length marks.old.items }
-    ensures marks { (k : ℕ) → slice_index_or marks.new.items k false
-        ≡ (slice_index_or marks.old.items k false || has_place ends.now k) }
-{
-    for end in ends {
-        marks[*end] = true;
-    }
-}
-
-// Marks the readers of the user at a place, where its change shows to them.
-fn tell<R: PullRule, V: View, L: Ledger>(
-    alloc: Global,
-    rule: &R,
-    users: &[User],
-    kept: &Kept<R::Value>,
-    first: &R::Value,
-    layer: u32,
-    drawn: &[Option<R::Value>],
-    view: &V,
-    outs: &mut Ends,
-    i: usize,
-    user: User,
-    marks: &mut Vec<bool>,
-    steps: &mut Steps<L>,
-) -> Result<(), Memory>
-    requires kept { IsKept R.LAYERS users.now kept.now }
-    requires on { On (R.seen rule.now) R.LAYERS (V.seen view.now) users.now kept.now }
-    requires first { first.now ≡ (R.seen rule.now).first }
-    requires within { i < length users.now }
-    requires at { place users.now user ≡ i }
-    requires long { length marks.old.items ≡ length users.now }
-    requires outs { AreRead (opposite (R.seen rule.now).side) (V.seen view.now) users.now outs.old }
-    ensures outs { AreRead (opposite (R.seen rule.now).side) (V.seen view.now) users.now outs.new }
-    ensures long { length marks.new.items ≡ length users.now }
-    ensures marks { OnOk result ((x : User) → marked users.now marks.new.items x ≡ (marked users.now marks.old.items x
-        || (changes_in (R.seen rule.now) users.now kept.now layer drawn.now user && has_user (neighbours_seen (opposite
-        (R.seen rule.now).side) (V.seen view.now) user) x))) }
-    ensures reads { OnOk result (steps.new ≡ steps.old
-        + (if changes_in (R.seen rule.now) users.now kept.now layer drawn.now user then reads_on
-        (opposite (R.seen rule.now).side)
-        (V.seen view.now) user else 0)) }
-{
-    if !changes(rule, users, kept, first, layer, drawn, i, user) {
-        return Ok(());
-    }
-    outs.read(alloc, users, view, opposite(rule.side()), i, user, steps)?;
-    mark_all(marks, outs.row(i));
-    Ok(())
-}
-
-// Marks the readers of each user whose change shows to them.
-fn tell_all<R: PullRule, V: View, L: Ledger>(
-    alloc: Global,
-    rule: &R,
-    users: &[User],
-    kept: &Kept<R::Value>,
-    first: &R::Value,
-    layer: u32,
-    drawn: &[Option<R::Value>],
-    view: &V,
-    outs: &mut Ends,
-    marks: &mut Vec<bool>,
-    steps: &mut Steps<L>,
-) -> Result<(), Memory>
-    requires kept { IsKept R.LAYERS users.now kept.now }
-    requires on { On (R.seen rule.now) R.LAYERS (V.seen view.now) users.now kept.now }
-    requires first { first.now ≡ (R.seen rule.now).first }
-    requires long { length marks.old.items ≡ length users.now }
-    requires outs { AreRead (opposite (R.seen rule.now).side) (V.seen view.now) users.now outs.old }
-    ensures outs { AreRead (opposite (R.seen rule.now).side) (V.seen view.now) users.now outs.new }
-    ensures long { length marks.new.items ≡ length users.now }
-    ensures marks { OnOk result ((x : User) → marked users.now marks.new.items x ≡ (marked users.now marks.old.items x
-        || is_shown (R.seen rule.now) (V.seen view.now) users.now kept.now layer drawn.now users.now x)) }
-    ensures reads { OnOk result (steps.new ≡ steps.old + tell_reads (R.seen rule.now)
-        (V.seen view.now) users.now kept.now layer drawn.now users.now) }
-{
-    for i in 0..users.len() {
-        tell(
-            alloc, rule, users, kept, first, layer, drawn, view, outs, i, users[i], marks, steps,
-        )?;
-    }
-    Ok(())
-}
 
 // Marks of those who are active at a layer.
 fn active_marks<V: Drop>(
@@ -346,7 +179,10 @@ fn above<R: PullRule, V: View, L: Ledger>(
     ensures ins { AreRead (R.seen rule.now).side (V.seen view.now) users.now ins.new }
     ensures value { IfOk result (λ value. value
         ≡ above_in (R.seen rule.now) (V.seen view.now) users.now kept.now layer drawn.now user) }
-    ensures reads { steps.new ≡ steps.old + reads_on (R.seen rule.now).side (V.seen view.now) user }
+    ensures computed { OnOk result ((x : User) → has_user users.now x ≡ true → was_read users.now ins.new x
+        ≡ (was_read users.now ins.old x || place users.now x == i)) }
+    ensures reads { OnOk result (steps.new + read_of (R.seen rule.now).side (V.seen view.now) users.now ins.old
+        ≡ steps.old + read_of (R.seen rule.now).side (V.seen view.now) users.now ins.new) }
 {
     ins.read(alloc, users, view, rule.side(), i, user, steps)?;
     next_at(
@@ -391,8 +227,10 @@ fn above_if<R: PullRule, V: View, L: Ledger>(
     ensures value { IfOk result (λ value. value
         ≡ (if due then Some (above_in (R.seen rule.now)
         (V.seen view.now) users.now kept.now layer drawn.now user) else None)) }
-    ensures reads { OnOk result (steps.new
-        ≡ steps.old + (if due then reads_on (R.seen rule.now).side (V.seen view.now) user else 0)) }
+    ensures computed { OnOk result ((x : User) → has_user users.now x ≡ true → was_read users.now ins.new x
+        ≡ (was_read users.now ins.old x || (due && place users.now x == i))) }
+    ensures reads { OnOk result (steps.new + read_of (R.seen rule.now).side (V.seen view.now) users.now ins.old
+        ≡ steps.old + read_of (R.seen rule.now).side (V.seen view.now) users.now ins.new) }
 {
     if !due {
         return Ok(None);
@@ -427,9 +265,10 @@ fn all_above<R: PullRule, V: View, L: Ledger>(
     ensures ins { AreRead (R.seen rule.now).side (V.seen view.now) users.now ins.new }
     ensures above { IfOk result (λ above. IsAbove (R.seen rule.now)
         (V.seen view.now) users.now kept.now layer drawn.now marks.now above.items) }
-    ensures reads { OnOk result (steps.new ≡ steps.old
-        + sum_over (λ x. if marked users.now marks.now x then reads_on (R.seen rule.now).side
-        (V.seen view.now) x else 0) users.now) }
+    ensures computed { OnOk result ((x : User) → has_user users.now x ≡ true → was_read users.now ins.new x
+        ≡ (was_read users.now ins.old x || marked users.now marks.now x)) }
+    ensures reads { OnOk result (steps.new + read_of (R.seen rule.now).side (V.seen view.now) users.now ins.old
+        ≡ steps.old + read_of (R.seen rule.now).side (V.seen view.now) users.now ins.new) }
 {
     let mut values = Vec::with_capacity(alloc, users.len())?;
     for i in 0..users.len() {
@@ -470,10 +309,21 @@ pub(crate) fn pass<R: PullRule, V: View, L: Ledger>(
         (keeping (R.seen rule.now).first users.now kept.now) users.now layer (drawn_in
         (R.seen rule.now).first users.now kept.now layer drawn.now)
         (drawn_in (R.seen rule.now).first users.now kept.now (layer + 1) above.items)) }
-    ensures reads { OnOk result (steps.new ≡ steps.old + pass_reads (R.seen rule.now) (net_in (R.seen rule.now).side
-        (V.seen view.now) users.now kept.now) (V.seen view.now)
-        (keeping (R.seen rule.now).first users.now kept.now) users.now layer (drawn_in
-        (R.seen rule.now).first users.now kept.now layer drawn.now)) }
+    ensures told { OnOk result ((x : User) → has_user users.now x ≡ true → was_read users.now outs.new x
+        ≡ (was_read users.now outs.old x || changes (R.seen rule.now)
+        (net_in (R.seen rule.now).side (V.seen view.now) users.now kept.now)
+        (keeping (R.seen rule.now).first users.now kept.now) layer
+        (drawn_in (R.seen rule.now).first users.now kept.now layer drawn.now) x)) }
+    ensures computed { OnOk result ((x : User) → has_user users.now x ≡ true → was_read users.now ins.new x
+        ≡ (was_read users.now ins.old x || is_due (R.seen rule.now)
+        (net_in (R.seen rule.now).side (V.seen view.now) users.now kept.now)
+        (keeping (R.seen rule.now).first users.now kept.now) users.now layer
+        (drawn_in (R.seen rule.now).first users.now kept.now layer drawn.now) x)) }
+    ensures reads { OnOk result (steps.new
+        + (read_of (opposite (R.seen rule.now).side) (V.seen view.now) users.now outs.old
+        + read_of (R.seen rule.now).side (V.seen view.now) users.now ins.old) ≡ steps.old
+        + (read_of (opposite (R.seen rule.now).side) (V.seen view.now) users.now outs.new
+        + read_of (R.seen rule.now).side (V.seen view.now) users.now ins.new)) }
 {
     let mut marks = active_marks(alloc, users, kept, layer + 1)?;
     tell_all(

@@ -24,12 +24,38 @@ pub(crate) fn find(users: &[User], u: User) -> Option<usize>
     users.binary_search(&u).ok()
 }
 
-/// The place of a user, or else the number of users. O(log n).
-pub(crate) fn place_of(users: &[User], u: User) -> usize
+/// The same, for whoever looks users up in their order: the place after that of the last one is looked at first, and
+/// remembered. O(1) where the user stands there, or else O(log n).
+pub(crate) fn find_next(users: &[User], next: &mut usize, u: User) -> Option<usize>
+    requires { IsStrictlySortedBy user_cmp users.now }
+    ensures found { result ≡ found users.now u }
+    ensures within { IfSome result (λ i. i < length users.now) }
+{
+    let place = find_from(users, *next, u);
+    if let Some(i) = place {
+        *next = i + 1;
+    }
+    place
+}
+
+// The place of a user, where it is one of these. This place is looked at first.
+fn find_from(users: &[User], first: usize, u: User) -> Option<usize>
+    requires { IsStrictlySortedBy user_cmp users.now }
+    ensures found { result ≡ found users.now u }
+    ensures within { IfSome result (λ i. i < length users.now) }
+{
+    match users.get(first) {
+        Some(user) if user.0 == u.0 => Some(first),
+        _ => find(users, u),
+    }
+}
+
+/// The place of a user, or else the number of users: see `find_next`.
+pub(crate) fn next_place(users: &[User], next: &mut usize, u: User) -> usize
     requires { IsStrictlySortedBy user_cmp users.now }
     ensures { result ≡ place users.now u }
 {
-    match find(users, u) {
+    match find_next(users, next, u) {
         Some(i) => i,
         None => users.len(),
     }
@@ -54,7 +80,7 @@ pub(crate) fn ends(alloc: Global, users: &[User], halves: &Halves) -> Result<Vec
     requires { IsStrictlySortedBy user_cmp users.now }
     ensures { IfOk result (λ row. row.items ≡ places_of users.now (present_ends halves.now)) }
 {
-    let mut row = Vec::new(alloc);
+    let mut row = Vec::with_capacity(alloc, halves.len())?;
     for half in halves.iter() {
         put_end(&mut row, users, *half)?;
     }

@@ -10,7 +10,8 @@ ghost use Rattle.kin_pull.specs.States.{IsKept, IsQuiet, On, keeping, net_in, ro
 
 use crate::ends::Ends;
 use crate::kept::{Kept, row_of};
-use crate::passes::{drawn_value, pass};
+use crate::passes::pass;
+use crate::showing::drawn_value;
 use kin_graph::{Steps, View};
 use kin_ids::{Memory, User};
 use kin_rules::PullRule;

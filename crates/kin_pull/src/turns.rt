@@ -23,8 +23,8 @@ ghost use Rattle.kin_pull.specs.TurnSteps.{turned_input};
 ghost use Rattle.kin_pull.specs.Turns.{IsMoved, IsRested, turn_reads};
 
 use crate::kept::Kept;
-use crate::passes::shows;
 use crate::places::{ends, find, halves_on, opposite};
+use crate::showing::shows;
 use kin_graph::{Steps, View};
 use kin_ids::{Memory, User};
 use kin_rules::{Lent, PullRule, Side, Turn};

@@ -91,7 +91,7 @@ stop-end start [] n i are lt = absurd (omega (arith, lt))
 stop-end start (stop ∷ stops) n zero are lt = start-end stop stops n are.1
 stop-end start (stop ∷ stops) n (suc i) are lt = stop-end stop stops n i are.1 (omega (arith, lt))
 
-length-rows : (start : ℕ) (stops ends : List ℕ) → length (rows_from start stops ends) ≡ length stops
+pub length-rows : (start : ℕ) (stops ends : List ℕ) → length (rows_from start stops ends) ≡ length stops
 length-rows start [] ends = refl
 length-rows start (stop ∷ stops) ends = ap suc (length-rows stop stops ends)
 

@@ -11,10 +11,10 @@ use std::alloc::Global;
 use std::marker::Model;
 use std::sync::ledger::Ledger;
 
-/// For each user, by its place, the places of the ends of its edges, seen as one row a user. The rows stand one
-/// after the other in one vector.
+/// Rows of places, seen as a list of them: for each user, by its place, the places of the ends of its edges. The rows
+/// stand one after the other in one vector.
 #[derive(Drop)]
-pub(crate) struct Edges {
+pub struct Edges {
     // where each row stops, and the next one starts
     stops: Vec<usize>,
     ends: Vec<usize>,
@@ -74,7 +74,7 @@ fn between(ends: &[usize], start: usize, stop: usize) -> &[usize]
 
 impl Edges {
     /// No rows. It takes no memory.
-    pub(crate) fn new(alloc: Global) -> Edges
+    pub fn new(alloc: Global) -> Edges
         ensures { result ≡ [] }
     {
         Edges {
@@ -83,8 +83,15 @@ impl Edges {
         }
     }
 
+    /// How many rows there are. O(1).
+    pub fn len(&self) -> usize
+        ensures { result ≡ length self.now }
+    {
+        self.stops.len()
+    }
+
     /// One row more, after the others. O(1) for each place of it.
-    pub(crate) fn push_row(&mut self, row: &[usize]) -> Result<(), Memory>
+    pub fn push_row(&mut self, row: &[usize]) -> Result<(), Memory>
         ensures ok { OnOk result (self.new ≡ self.old ++ row.now ∷ []) }
         ensures err { OnErr result (self.new ≡ self.old) }
     {
@@ -95,7 +102,7 @@ impl Edges {
     }
 
     /// The row at a place, with nothing in it where there is none. O(1).
-    pub(crate) fn row(&self, place: usize) -> &[usize]
+    pub fn row(&self, place: usize) -> &[usize]
         ensures { result.now ≡ get_or self.now place [] }
     {
         if place >= self.stops.len() {

@@ -4,7 +4,7 @@
 
 pub mod columns;
 pub mod costs;
-mod edges;
+pub mod edges;
 mod evaluations;
 mod exchanges;
 pub mod exposure_lists;
@@ -30,6 +30,7 @@ mod widenings;
 
 pub use columns::{Column, Walks};
 pub use costs::Costs;
+pub use edges::Edges;
 pub use exposure_lists::tally;
 pub use exposure_rules::{UseK, UseKs};
 pub use indexes::Index;

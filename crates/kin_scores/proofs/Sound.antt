@@ -13,10 +13,7 @@ use Rattle.kin_ids.proofs.Whole.{any-map-filter}
 use Rattle.kin_store.specs.Lists.{half_key, use_key}
 use Rattle.kin_changes.specs.Views.{IsWholeView}
 use Rattle.kin_changes.proofs.Wholes.{once-moved}
-
-map-after : {X Y Z : Type 0} (f : Y → Z) (g : X → Y) (xs : List X) → map f (map g xs) ≡ map (λ x. f (g x)) xs
-map-after f g [] = refl
-map-after {Z = Z} f g (x ∷ xs) = ap (λ (zs : List Z). f (g x) ∷ zs) (map-after f g xs)
+use Rattle.kin_pull.proofs.Rows.{map-after}
 
 -- what stands once among those of each user stands once among all
 once-by-user : {A K : Type 0} (user : A → User) (same : K → K → Bool) (key : A → K) (xs : List A)

@@ -162,9 +162,11 @@ impl Scores {
         ensures shown { AreShown self.new columns.new }
         ensures settles { OnOk result (AreSettled (V.seen view.now) columns.old.users self.old self.new) }
         ensures quiet { OnOk result (AreQuiet columns.old.users self.new) }
-        ensures reads { OnOk result (steps.new ≡ steps.old + scores_reads (V.seen view.now) columns.old.users self.old) }
+        ensures reads { OnOk result (steps.new
+            ≡ steps.old + scores_reads (V.seen view.now) columns.old.users self.old) }
         ensures rest { KeepsRest columns.old columns.new }
-        ensures idle { AreQuiet columns.old.users self.old → (steps.new ≡ steps.old) × (self.new ≡ self.old) × (columns.new ≡ columns.old) }
+        ensures idle { AreQuiet columns.old.users self.old → (steps.new ≡ steps.old) × (self.new ≡ self.old)
+            × (columns.new ≡ columns.old) }
         ensures err { OnErr result ((self.new ≡ self.old) × (columns.new ≡ columns.old)) }
     {
         let (users, tags) = (columns.users(), columns.tags());

@@ -5,7 +5,7 @@ use Rattle.kin_rules.specs.Columns.{column_of, columns_of}
 use Rattle.kin_rules.specs.Places.{place}
 use Rattle.kin_mine.specs.Lanes.{IsTurned, KeepsOn, lanes, marked_in, no_user}
 use Rattle.kin_mine.specs.Marks.{rule_of}
-use Rattle.kin_mine.proofs.Columns.{neither}
+use Rattle.std.proofs.lemmas.Bool.{or_parts}
 use Rattle.kin_mine.proofs.Steps.{all-on, at-end, done-next, marked-all, marked-more, next-active, next-on, owed-next, same-columns, same-marks, weaker}
 use Rattle.kin_mine.proofs.lanes.turn_slices.Goals as goal
 
@@ -35,7 +35,7 @@ loop-i-preserved g c =
           ∙ next-active keeps i c.args.landmarks.now c.args.users.now (columns_of c.args.columns.now) c.args.marks.now c.loop-i.columns c.loop-i.marks done are lt dc dm c.args.u)
           ∙ sym (marked-more c.args.users.now c.args.marks.now c.args.u i));
       idle = λ off.
-          let both = neither (marked_in c.args.users.now c.args.marks.now c.args.u i) (get_or (get_or c.args.marks.now i []) (place c.args.users.now c.args.u) false) (sym (marked-more c.args.users.now c.args.marks.now c.args.u i) ∙ off) in
+          let both = or_parts (marked_in c.args.users.now c.args.marks.now c.args.u i) (get_or (get_or c.args.marks.now i []) (place c.args.users.now c.args.u) false) (sym (marked-more c.args.users.now c.args.marks.now c.args.u i) ∙ off) in
           let before = c.loop-i.invariant.idle both.0 in
           let now = one.idle (next-active keeps i c.args.landmarks.now c.args.users.now (columns_of c.args.columns.now) c.args.marks.now c.loop-i.columns c.loop-i.marks done are lt dc dm c.args.u ∙ both.1) in
           (same-columns c.loop-i.columns i c.turn_lane-one.new.column dc now.0 ∙ before.0, same-marks c.loop-i.marks i c.turn_lane-one.new.marks dm now.1 ∙ before.1, now.2 ∙ before.2);

@@ -4,14 +4,14 @@ use Rattle.kin_rules.specs.Layers.{blank}
 use Rattle.kin_rules.specs.Places.{place}
 use Rattle.kin_rules.proofs.Places.{place-lt}
 use Rattle.kin_pull.proofs.Marks.{past-last}
-use Rattle.kin_pull.proofs.Plans.{found-there, found-away}
+use Rattle.kin_rules.proofs.EdgeRows.{found-some, found-none}
 use Rattle.kin_pull.proofs.Rows.{ok-more}
 use Rattle.kin_pull.proofs.begins.facts_of.Goals as goal
 
 pub returns-in-Some : goal.returns-in-Some
 returns-in-Some g c =
     let us = c.args.users.now in
-    let at = found-there us c.args.u c.in-Some.i (sym c.find.ensures.found ∙ c.in-Some.is) in
+    let at = found-some us c.args.u c.in-Some.i (sym c.find_next.ensures.found ∙ c.in-Some.is) in
     let l = place-lt us c.args.u at.0 in
     ok-more _ _ c.copy.result
     (λ f e. e ∙ (c.index-facts-i.is ∙ (ap (λ fs. get_or fs c.in-Some.i c.index-facts-i.result) c.facts.ensures
@@ -21,4 +21,4 @@ returns-in-Some g c =
 
 pub returns-in-None : goal.returns-in-None
 returns-in-None g c = c.blank.ensures ∙ sym (past-last c.args.users.now c.args.kept.now.facts c.args.u (blank c.args.u) c.requires.long
-    (found-away c.args.users.now c.args.u (sym c.find.ensures.found ∙ c.in-None.is)))
+    (found-none c.args.users.now c.args.u (sym c.find_next.ensures.found ∙ c.in-None.is)))

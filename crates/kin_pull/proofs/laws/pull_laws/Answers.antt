@@ -1,4 +1,4 @@
-use Rattle.kin_pull.proofs.Epochs.{empty-law, begin-law, quiet-law, view-law, reads-law}
+use Rattle.kin_pull.proofs.Epochs.{empty-law, begin-law, quiet-law, view-law, reads-law, layers-law}
 use Rattle.kin_pull.proofs.laws.pull_laws.Goals as goal
 
 pub returns-clause-empty : goal.returns-clause-empty
@@ -15,3 +15,6 @@ returns-clause-view g c = view-law g.row.V.Denot
 
 pub returns-clause-reads : goal.returns-clause-reads
 returns-clause-reads g c = reads-law g.row.V.Denot
+
+pub returns-clause-layers : goal.returns-clause-layers
+returns-clause-layers g c = layers-law g.row.V.Denot

@@ -1,7 +1,6 @@
-use Rattle.std.proofs.Common.{◌≡◌, ◌+◌, ◌∙◌, ◌||◌, if◌then◌else◌, ap, subst, List, Bool}
-use Rattle.kin_pull.specs.Passes.{is_shown, marked, IsAbove}
-use Rattle.kin_pull.specs.Settles.{reads_on, sum_over}
-use Rattle.kin_pull.proofs.Marks.{passes, pass-reads}
+use Rattle.std.proofs.Common.{◌∙◌, ◌||◌, ap, arith, subst, List, Bool}
+use Rattle.kin_pull.specs.Passes.{is_shown, marked, was_read, IsAbove}
+use Rattle.kin_pull.proofs.Marks.{passes}
 use Rattle.kin_pull.proofs.Rows.{ok-more, on-more}
 use Rattle.kin_pull.proofs.passes.pass.Goals as goal
 
@@ -18,16 +17,17 @@ returns-clause-passed g c =
     (subst (λ (ms : List Bool). IsAbove r v us k c.args.layer c.args.drawn.now ms above.items) c.as_slice-2.ensures.value up))
     c.all_above.ensures.above
 
-pub returns-clause-reads : goal.returns-clause-reads
-returns-clause-reads g c =
+pub returns-clause-computed : goal.returns-clause-computed
+returns-clause-computed g c =
     let r = g.R.PullRule.seen c.args.rule.now in
     let v = g.V.View.seen c.args.view.now in
     let us = c.args.users.now in
     let k = c.args.kept.now in
     on-more _ _ c.all_above.result
-    (λ read. pass-reads r v us k c.args.layer c.args.drawn.now c.tell_all.new.marks.items
-    (λ x. c.in_ok-tell_all.ensures.marks x ∙ ap (λ b. b || is_shown r v us k c.args.layer c.args.drawn.now us x)
-    (c.in_ok-marks.ensures.marks x))
-    c.args.steps.now c.tell_all.new.steps c.all_above.new.steps c.in_ok-tell_all.ensures.reads
-    (subst (λ (ms : List Bool). c.all_above.new.steps ≡ c.tell_all.new.steps + sum_over
-    (λ x. if marked us ms x then reads_on r.side v x else 0) us) c.as_slice-2.ensures.value read)) c.all_above.ensures.reads
+    (λ done x there. done x there
+    ∙ ap (λ (b : Bool). was_read us c.args.ins.now x || b) (ap (λ (ms : List Bool). marked us ms x) c.as_slice-2.ensures.value
+    ∙ (c.in_ok-tell_all.ensures.marks x ∙ ap (λ (b : Bool). b || is_shown r v us k c.args.layer c.args.drawn.now us x)
+    (c.in_ok-marks.ensures.marks x)))) c.all_above.ensures.computed
+
+pub returns-clause-reads : goal.returns-clause-reads
+returns-clause-reads g c = on-more _ _ c.all_above.result (λ read. omega (arith, read, c.in_ok-tell_all.ensures.reads)) c.all_above.ensures.reads

@@ -1,6 +1,6 @@
 use Rattle.std.proofs.Common.{◌≡◌, ◌||◌, ℕ, false, take, length, slice_index_or}
 use Rattle.kin_rules.specs.Going.{has_place}
-use Rattle.kin_pull.proofs.passes.mark_all.Given as goal
+use Rattle.kin_pull.proofs.showing.mark_all.Given as goal
 
 -- the places so far are marked
 abbrev pub invariant-loop-end : goal.invariant-loop-end
