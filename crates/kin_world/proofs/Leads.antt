@@ -5,6 +5,7 @@ use Rattle.kin_ids.specs.declared.ops.Record.{Record}
 use Rattle.kin_ids.specs.Graph.{Graph, empty_graph}
 use Rattle.kin_ids.specs.Order.{of_epoch, order, folded, snapshot}
 use Rattle.kin_ids.proofs.Joins.{folded-append}
+use Rattle.kin_ids.specs.Parts.{PartView}
 use Rattle.kin_ids.specs.Wholes.{IsViewOf}
 use Rattle.kin_graph.specs.Deltas.{DeltaLists, no_change}
 use Rattle.kin_graph.specs.Tells.{Tells}
@@ -13,13 +14,17 @@ use Rattle.kin_blocks.proofs.Few.{few-said}
 use Rattle.kin_changes.specs.Views.{AreLed, Continues, delta_at}
 use Rattle.kin_changes.proofs.Led.{led-law}
 use Rattle.kin_changes.proofs.Mentioned.{all-mentioned}
-use Rattle.kin_hub.specs.Hubs.{cuts_in, snap_in, deltas_in, parts_in}
+use Rattle.kin_hub.specs.Hubs.{KeepsEpoch, cuts_in, snap_in, deltas_in, parts_in}
 use Rattle.kin_hub.specs.Commits.{AreDeltas}
-use Rattle.kin_hub.proofs.Committing.{kept-deltas, do-not-fall, inside}
+use Rattle.kin_hub.proofs.Committing.{few-law, kept-deltas, kept-snapshot, do-not-fall, inside}
 use Rattle.kin_hub.proofs.Storing.{snapshot-sound}
+use Rattle.kin_script.specs.declared.events.Event.{Event}
+use Rattle.kin_history.specs.Setting.{Setting}
+use Rattle.kin_rules.proofs.SmallViews.{small-view}
 use Rattle.kin_history.specs.Vectors.{vector}
 use Rattle.kin_history.specs.Mining.{mined, is_open}
 use Rattle.kin_mine.specs.Miners.{seen}
+use Rattle.kin_world.specs.Laws.{LeadLaw}
 use Rattle.kin_world.specs.Worlds.{WorldView}
 use Rattle.kin_world.specs.Mining.{held_back_in}
 use Rattle.kin_world.specs.Stands.{Stands, HasHistory, story_of, last_begun}
@@ -32,6 +37,37 @@ continues-suc feeds vectors k = (of_epoch feeds (suc k) (vectors k) (vectors (su
 
 continues : (feeds : List (List Record)) (vectors : ℕ → ℕ → ℕ) (k : ℕ) → Continues (snapshot feeds vectors k) (snapshot feeds vectors (k + 1))
 continues feeds vectors k = subst (λ (n : ℕ). Continues (snapshot feeds vectors k) (snapshot feeds vectors n)) (sym (add-one k)) (continues-suc feeds vectors k)
+
+module _ (set : Setting) (w : WorldView) (h : List Event) (s : Stands set w h) (k : ℕ) (kept : KeepsEpoch w.hub (k + 1)) where
+  -- the deltas of a kept epoch lead to its snapshot from each view of the graph of the one before
+  pub leads : (was : PartView) → IsViewOf (snapshot set.feeds (vector set h) k) was
+      → AreLed was (joined (snap_in w.hub (k + 1))) (deltas_in w.hub (k + 1))
+  leads was whole =
+      let are : AreDeltas w.hub (k + 1) (deltas_in w.hub (k + 1)) = kept-deltas w.hub (k + 1) (story_of set h, s.epochs.hub) kept in
+      let feeds = set.feeds in
+      let v = vector set h in
+      let count = are.count in
+      let ds = deltas_in w.hub (k + 1) in
+      let some : 0 < length ds = omega (arith, count, s.epochs.hub.core.parts_are, s.epochs.hub.stores.parts_are, s.epochs.hub.stores.versions.some) in
+      led-law (snapshot feeds v k) (snapshot feeds v (k + 1)) was (joined (snap_in w.hub (k + 1))) ds (snapshot-sound feeds v k)
+      (snapshot-sound feeds v (k + 1)) (all-mentioned (order feeds v k)) (continues feeds v k) whole
+      (kept-snapshot w.hub (k + 1) kept (story_of set h) s.epochs.hub) some
+      (λ p lt. subst (λ (n : ℕ). Tells n p (snapshot feeds v k) (snapshot feeds v (k + 1)) (delta_at ds p)) (sym count)
+      (subst (λ (j : ℕ). Tells (parts_in w.hub) p (snapshot feeds v j) (snapshot feeds v (k + 1)) (delta_at ds p))
+      (let before : k + 1 - 1 ≡ k = omega arith in before) (are.tell (story_of set h) p s.epochs.hub (omega (arith, lt, count)))))
+
+pub lead-law : LeadLaw
+lead-law set w h k was s kept whole = record {
+  led = leads set w h s k kept was whole;
+  small =
+      let stores = s.epochs.hub.stores in
+      let some = stores.versions.some in
+      let low = kept.whole 0 some in
+      let most = stores.within 0 (omega (arith, some, stores.parts_are)) in
+      let few = few-law (story_of set h) w.hub (k + 1) s.epochs.hub s.over.limits (omega (arith, low, most)) in
+      small-view (snapshot set.feeds (vector set h) (k + 1)) (joined (snap_in w.hub (k + 1)))
+      (kept-snapshot w.hub (k + 1) kept (story_of set h) s.epochs.hub) (omega (arith, few));
+}
 
 module _ (w : WorldView) (has : HasHistory w) (clear : held_back_in w ≡ None) where
   -- in the next snapshot nobody is mentioned too often
@@ -60,17 +96,5 @@ module _ (w : WorldView) (has : HasHistory w) (clear : held_back_in w ≡ None) 
         let set = has.0 in
         let h = has.1 in
         let s = has.2 in
-        let r = clear-ready set w h s clear in
-        let are : AreDeltas w.hub (w.mined + 1) (deltas_in w.hub (w.mined + 1)) = kept-deltas w.hub (w.mined + 1) (story_of set h, s.epochs.hub) (ready-kept set w h s r) in
-        let feeds = set.feeds in
-        let v = vector set h in
-        let m = mined set h in
-        let count = are.count in
-        let ds = deltas_in w.hub (w.mined + 1) in
-        let is : w.mined ≡ m = s.mining.mined_is in
-        let some : 0 < length ds = omega (arith, count, s.epochs.hub.core.parts_are, s.epochs.hub.stores.parts_are, s.epochs.hub.stores.versions.some) in
-        led-law (snapshot feeds v m) (snapshot feeds v (m + 1)) (seen w.miner) (joined (snap_in w.hub (w.mined + 1))) (deltas_in w.hub (w.mined + 1)) (snapshot-sound feeds v m) (snapshot-sound feeds v (m + 1)) (all-mentioned (order feeds v m))
-        (continues feeds v m) closed-seen (ready-whole set w h s r) some
-        (λ p lt. subst (λ (n : ℕ). Tells n p (snapshot feeds v m) (snapshot feeds v (m + 1)) (delta_at ds p)) (sym count)
-        (subst (λ (k : ℕ). Tells (parts_in w.hub) p (snapshot feeds v k) (snapshot feeds v (m + 1)) (delta_at ds p)) (let before : w.mined + 1 - 1 ≡ m = omega (arith, is) in before)
-        (subst (λ (k : ℕ). Tells (parts_in w.hub) p (snapshot feeds v (w.mined + 1 - 1)) (snapshot feeds v k) (delta_at ds p)) (ap (λ (k : ℕ). k + 1) is) (are.tell (story_of set h) p s.epochs.hub (omega (arith, lt, count))))))
+        leads set w h s w.mined (ready-kept set w h s (clear-ready set w h s clear)) (seen w.miner)
+        (subst (λ (m : ℕ). IsViewOf (snapshot set.feeds (vector set h) m) (seen w.miner)) (sym s.mining.mined_is) closed-seen)

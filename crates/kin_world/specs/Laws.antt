@@ -1,9 +1,10 @@
 -- Laws of worlds that stand for a history.
-use Rattle.std.specs.Prelude.{ℕ, ◌≡◌, ◌<◌, ◌≤◌, ◌↔◌, true, List}
+use Rattle.std.specs.Prelude.{ℕ, ◌≡◌, ◌<◌, ◌≤◌, ◌+◌, ◌↔◌, true, List}
 use Rattle.kin_ids.specs.declared.ids.User.{User}
 use Rattle.kin_ids.specs.declared.ops.Piece.{Piece}
 use Rattle.kin_ids.specs.Lines.{has}
 use Rattle.kin_ids.specs.Order.{snapshot}
+use Rattle.kin_ids.specs.Parts.{PartView}
 use Rattle.kin_script.specs.declared.events.Event.{Event}
 use Rattle.kin_history.specs.Setting.{Setting, nodes}
 use Rattle.kin_history.specs.Lines.{inc, sent, base, least_ack, agreed}
@@ -14,7 +15,9 @@ use Rattle.kin_hub.specs.Cores.{CoreView, CoreTakes, ready}
 use Rattle.kin_blocks.specs.Snaps.{joined}
 use Rattle.kin_ids.specs.Wholes.{IsViewOf}
 use Rattle.kin_blocks.specs.Wholes.{told_out, told_in}
-use Rattle.kin_hub.specs.Hubs.{KeepsEpoch, agreed_in, inc_in, snap_in}
+use Rattle.kin_graph.specs.Views.{IsSmall}
+use Rattle.kin_changes.specs.Views.{AreLed}
+use Rattle.kin_hub.specs.Hubs.{KeepsEpoch, agreed_in, deltas_in, inc_in, snap_in}
 use Rattle.kin_world.specs.Worlds.{WorldView}
 use Rattle.kin_world.specs.Steps.{IsNotAdrift}
 use Rattle.kin_world.specs.Stands.{Stands}
@@ -48,3 +51,13 @@ pub record KeepsMoments (set : Setting) (w : WorldView) (h : List Event) (k : �
 
 abbrev pub MomentLaw : Type 0
 MomentLaw = (set : Setting) (w : WorldView) (h : List Event) (k : ℕ) → Stands set w h → KeepsMoments set w h k
+
+-- The deltas of an epoch lead to its stores from a view of the epoch before, and few users stand in these stores.
+pub record LeadsOn (w : WorldView) (k : ℕ) (was : PartView) : Type 0 where
+  pub led : AreLed was (joined (snap_in w.hub (k + 1))) (deltas_in w.hub (k + 1))
+  pub small : IsSmall (joined (snap_in w.hub (k + 1)))
+
+-- So it is where the epoch's stores are kept, from each view of the graph of the epoch before.
+abbrev pub LeadLaw : Type 0
+LeadLaw = (set : Setting) (w : WorldView) (h : List Event) (k : ℕ) (was : PartView) → Stands set w h → KeepsEpoch w.hub (k + 1)
+    → IsViewOf (snapshot set.feeds (vector set h) k) was → LeadsOn w k was

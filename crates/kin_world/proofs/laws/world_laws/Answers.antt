@@ -1,4 +1,5 @@
 use Rattle.kin_world.proofs.Facts.{agreed_is, inc_is}
+use Rattle.kin_world.proofs.Leads.{lead-law}
 use Rattle.kin_world.proofs.Moments.{keeps-moments}
 use Rattle.kin_world.proofs.Ready.{ready-is}
 use Rattle.kin_world.proofs.Taking.{is_told}
@@ -12,3 +13,6 @@ returns-clause-adrift c set w h x taken new s part node made based takes = is_to
 
 pub returns-clause-moments : goal.returns-clause-moments
 returns-clause-moments c set w h k s = keeps-moments set w h k s
+
+pub returns-clause-leads : goal.returns-clause-leads
+returns-clause-leads c = lead-law
